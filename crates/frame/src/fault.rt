@@ -1,0 +1,72 @@
+//! Why bytes are no frame: the cause, the place of the header at fault, and the layer that noticed.
+ghost use mathlib.Core.Path.{_≡_};
+ghost use Rattle.frame.specs.Numbers.{causeNumber};
+ghost use Rattle.frame.specs.Reader.{at as atPlace};
+ghost use Rattle.frame.specs.declared.fault.FrameFault.the-variants.{Header};
+
+#[derive(Clone, Copy, PartialEq, Eq, Debug)]
+pub enum Cause {
+    /// Fewer bytes than four, or than the packet size says.
+    Short,
+    /// Ver is not 3.
+    Version,
+    /// A reserved bit is set.
+    Reserved,
+    /// Next names no header that may follow here.
+    Next,
+    /// The packet size fits no frame of this form.
+    Size,
+    /// A field lies outside its range.
+    Range,
+}
+
+impl Cause {
+    pub fn number(self) -> u8
+        ensures { λ r. ⌜ r ≡ causeNumber self ⌝ }
+    {
+        match self {
+            Cause::Short => 20,
+            Cause::Version => 21,
+            Cause::Reserved => 22,
+            Cause::Next => 23,
+            Cause::Size => 24,
+            Cause::Range => 25,
+        }
+    }
+
+    /// The fault of a header at a place.
+    pub fn at(self, place: u8) -> HeaderFault
+        ensures { λ r. ⌜ r ≡ atPlace place self ⌝ }
+    {
+        HeaderFault { cause: self, place }
+    }
+}
+
+#[derive(Clone, Copy, PartialEq, Eq, Debug)]
+pub enum Layer {
+    Frame,
+    Header,
+}
+
+/// A fault in a header behind MAIN.
+#[derive(Clone, Copy, PartialEq, Eq, Debug)]
+pub struct HeaderFault {
+    pub cause: Cause,
+    pub place: u8,
+}
+
+#[derive(Clone, Copy, PartialEq, Eq, Debug)]
+pub enum FrameFault {
+    /// In MAIN, at byte 0.
+    Main(Cause),
+    /// In a later header, passed on whole.
+    Header(HeaderFault),
+}
+
+pub impl From<HeaderFault> for FrameFault as FrameFromHeader {
+    ghost converts = { λ h f. f ≡ Header h };
+
+    fn from(fault: HeaderFault) -> FrameFault {
+        FrameFault::Header(fault)
+    }
+}

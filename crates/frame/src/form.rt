@@ -1,0 +1,37 @@
+//! The five forms of a frame.
+use crate::fields::ConnId;
+use crate::fields::ConnType;
+use crate::fields::Fragment;
+use crate::fields::Head;
+use crate::fields::SeqNo;
+use crate::fields::WindowExponent;
+
+/// A frame, with the payload as a part of the bytes it was read from.
+#[derive(Clone, Copy)]
+pub enum Frame<'a> {
+    /// MAIN CONN: sets a connection up or ends it.
+    Conn {
+        to: ConnId,
+        kind: ConnType,
+        window: WindowExponent,
+        published: ConnId,
+    },
+    /// MAIN ACK: tells what has arrived.
+    Ack { head: Head },
+    /// MAIN ACK NACK: a gap report, `count` pieces missing from `from` on.
+    Nack { head: Head, count: u8, from: SeqNo },
+    /// MAIN ACK UDATA: a whole message, or its first piece.
+    Udata {
+        head: Head,
+        fragment: Fragment,
+        dst: u16,
+        src: u16,
+        payload: &'a [u8],
+    },
+    /// MAIN ACK FRAG: a later piece of a message.
+    Frag {
+        head: Head,
+        fragment: Fragment,
+        payload: &'a [u8],
+    },
+}

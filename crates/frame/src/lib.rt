@@ -1,0 +1,21 @@
+//! The frames of a LINX Ethernet connection.
+mod fault;
+mod fields;
+mod form;
+mod header;
+mod range;
+mod reader;
+
+pub use fault::Cause;
+pub use fault::FrameFault;
+pub use fault::FrameFromHeader;
+pub use fault::HeaderFault;
+pub use fault::Layer;
+pub use fields::ConnId;
+pub use fields::ConnType;
+pub use fields::Fragment;
+pub use fields::Head;
+pub use fields::SeqNo;
+pub use fields::WindowExponent;
+pub use form::Frame;
+pub use reader::read;
