@@ -1,7 +1,8 @@
 -- The frame format: a header is a list of words of 32 bits, and a word is a row of fields from the top bit.
 use Prim.Native.Nat.{ℕ, _+_, _*_, _/_, _%_, _^_}
-use mathlib.Core.List.{List, [], _∷_, _++_}
+use mathlib.Core.List.{List, [], _∷_, _++_, map}
 use lib.ListN.{length}
+use Rattle.std.specs.Joined.{joined}
 use Rattle.frame.specs.Fields.{Begin, Fields, conn, ack, nack, udata, frag}
 use Rattle.frame.specs.Numbers.{CONN, UDATA, FRAG, ACK, NACK, LAST}
 
@@ -70,14 +71,10 @@ rows (frag b more number p) = mainRow ACK (b .to) (12 + length p) ∷ ackRow FRA
 abbrev pub bigEndian : ℕ → List ℕ
 bigEndian w = (w / 16777216 % 256) ∷ (w / 65536 % 256) ∷ (w / 256 % 256) ∷ (w % 256) ∷ []
 
+-- The bytes of a list of words.
 abbrev pub laid : List ℕ → List ℕ
-laid [] = []
-laid (w ∷ ws) = bigEndian w ++ laid ws
+laid ws = joined bigEndian ws
 
-abbrev pub words : List Row → List ℕ
-words [] = []
-words (r ∷ rs) = packed r ∷ words rs
-
--- The bytes of a frame.
+-- The bytes of a frame: its headers, then its payload.
 abbrev pub bytes : Fields → List ℕ
-bytes f = laid (words (rows f)) ++ payload f
+bytes f = laid (map packed (rows f)) ++ payload f

@@ -5,3 +5,4 @@ pub mod Ranges
 pub mod Checks
 pub mod Reader
 pub mod Headers
+pub mod Writer

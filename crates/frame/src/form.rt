@@ -1,4 +1,8 @@
 //! The five forms of a frame.
+ghost use mathlib.Core.Path.{_≡_};
+ghost use Prim.Native.Nat.{_<_, _^_};
+ghost use Rattle.frame.specs.Fields.{fields};
+ghost use Rattle.frame.specs.Layout.{size};
 use crate::fields::ConnId;
 use crate::fields::ConnType;
 use crate::fields::Fragment;
@@ -34,4 +38,18 @@ pub enum Frame<'a> {
         fragment: Fragment,
         payload: &'a [u8],
     },
+}
+
+impl Frame<'_> {
+    /// The packet size: the length of the whole frame in bytes.
+    pub fn size(self) -> usize
+        ensures { λ r. ⌜ r ≡ size (fields (self .entry)) ⌝ }
+    {
+        match self {
+            Frame::Conn { .. } | Frame::Ack { .. } => 8,
+            Frame::Nack { .. } => 12,
+            Frame::Udata { payload, .. } => 20 + payload.len(),
+            Frame::Frag { payload, .. } => 12 + payload.len(),
+        }
+    }
 }

@@ -5,6 +5,7 @@ mod form;
 mod header;
 mod range;
 mod reader;
+mod writer;
 
 pub use fault::Cause;
 pub use fault::FrameFault;
@@ -19,3 +20,4 @@ pub use fields::SeqNo;
 pub use fields::WindowExponent;
 pub use form::Frame;
 pub use reader::read;
+pub use writer::Refusal;
