@@ -9,8 +9,8 @@ use lib.Dec.{eqb, ltb, leb}
 use lib.ListN.{length}
 use borrow.Author.Needs.{needs}
 use borrow.Author.Tests.{ltb-true, leb-true, eqb-true}
-use Rattle.frame.specs.Fields.{Begin, Fields, nack, udata, frag}
-use Rattle.frame.specs.Ranges.{all, isNumber, beginFits, countFits, udataFits, fragFits, lengthFits, inRange}
+use Rattle.frame.specs.Fields.{HeadFields, Fields, nack, udata, frag}
+use Rattle.frame.specs.Ranges.{all, isNumber, headFits, countFits, udataFits, fragFits, lengthFits, inRange}
 
 abbrev Each-true : List Bool → Type 0
 Each-true [] = Unit {0}
@@ -30,37 +30,38 @@ number-fits n h =
     let t = each-true (ltb 0 n ∷ ltb n 256 ∷ []) h in
     record { low = ltb-true 0 n (t .0); high = ltb-true n 256 (t .1 .0) }
 
-pub record Begun (b : Begin) : Type 0 where
+pub record HeadFacts (b : HeadFields) : Type 0 where
   pub to : Number (b .to)
   pub r : b .r < 2
   pub ackno : b .ackno < 4096
   pub seqno : b .seqno < 4096
 
-pub begin-fits : (b : Begin) → beginFits b ≡ true → Begun b
-begin-fits b h =
+pub head-fits : (b : HeadFields) → headFits b ≡ true → HeadFacts b
+head-fits b h =
     let t = each-true (isNumber (b .to) ∷ ltb (b .r) 2 ∷ ltb (b .ackno) 4096 ∷ ltb (b .seqno) 4096 ∷ []) h in
     record { to = number-fits (b .to) (t .0); r = ltb-true (b .r) 2 (t .1 .0); ackno = ltb-true (b .ackno) 4096 (t .1 .1 .0); seqno = ltb-true (b .seqno) 4096 (t .1 .1 .1 .0) }
 
 pub length-below : (least more n : ℕ) → lengthFits least more n ≡ true → n < 257
 length-below least more n h = grind arith
 
-pub record Piece (b : Begin) (fragment : Bool) (least more : ℕ) (p : List ℕ) : Type 0 where
-  pub begun : Begun b
+pub record Piece (b : HeadFields) (fragment : Bool) (least more : ℕ) (p : List ℕ) : Type 0 where
+  pub head : HeadFacts b
   pub fits : fragment ≡ true
   pub long : lengthFits least more (length p) ≡ true
   pub few : length p < 257
 
-pub frag-fits : (b : Begin) (more number : ℕ) (p : List ℕ) → inRange (frag b more number p) ≡ true → Piece b (fragFits more number) 1 more p
+pub frag-fits : (b : HeadFields) (more number : ℕ) (p : List ℕ) → inRange (frag b more number p) ≡ true → Piece b (fragFits more number) 1 more p
 frag-fits b more number p h =
-    let t = each-true (beginFits b ∷ fragFits more number ∷ lengthFits 1 more (length p) ∷ []) h in
-    record { begun = begin-fits b (t .0); fits = t .1 .0; long = t .1 .1 .0; few = length-below 1 more (length p) (t .1 .1 .0) }
+    let t = each-true (headFits b ∷ fragFits more number ∷ lengthFits 1 more (length p) ∷ []) h in
+    record { head = head-fits b (t .0); fits = t .1 .0; long = t .1 .1 .0; few = length-below 1 more (length p) (t .1 .1 .0) }
 
 pub record Addressed (dst src : ℕ) : Type 0 where
   pub dst-high : dst < 65536
   pub src-high : src < 65536
 
-pub udata-fits : (b : Begin) (more number dst src : ℕ) (p : List ℕ) → inRange (udata b more number dst src p) ≡ true → Piece b (udataFits more number) 0 more p × Addressed dst src
+pub udata-fits : (b : HeadFields) (more number dst src : ℕ) (p : List ℕ) → inRange (udata b more number dst src p) ≡ true → Piece b (udataFits more number) 0 more p × Addressed dst src
 udata-fits b more number dst src p h =
-    let t = each-true (beginFits b ∷ udataFits more number ∷ lengthFits 0 more (length p) ∷ ltb dst 65536 ∷ ltb src 65536 ∷ []) h in
-    (record { begun = begin-fits b (t .0); fits = t .1 .0; long = t .1 .1 .0; few = length-below 0 more (length p) (t .1 .1 .0) },
-     record { dst-high = ltb-true dst 65536 (t .1 .1 .1 .0); src-high = ltb-true src 65536 (t .1 .1 .1 .1 .0) })
+    let t = each-true (headFits b ∷ udataFits more number ∷ lengthFits 0 more (length p) ∷ ltb dst 65536 ∷ ltb src 65536 ∷ []) h in (
+      record { head = head-fits b (t .0); fits = t .1 .0; long = t .1 .1 .0; few = length-below 0 more (length p) (t .1 .1 .0) },
+      record { dst-high = ltb-true dst 65536 (t .1 .1 .1 .0); src-high = ltb-true src 65536 (t .1 .1 .1 .1 .0) },
+    )

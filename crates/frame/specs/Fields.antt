@@ -9,8 +9,8 @@ use Rattle.frame.specs.declared.form.Frame.{Frame}
 use Rattle.frame.specs.declared.form.Frame.the-variants.{Conn, Ack, Nack, Udata, Frag}
 use Rattle.frame.specs.Numbers.{typeNumber}
 
--- The fields that ACK, NACK, UDATA and FRAG frames begin with.
-pub record Begin : Type 0 where
+-- The fields that ACK, NACK, UDATA and FRAG frames headFields with.
+pub record HeadFields : Type 0 where
   pub to : ℕ
   pub r : ℕ
   pub ackno : ℕ
@@ -19,25 +19,25 @@ pub record Begin : Type 0 where
 -- The five forms, each with its fields.
 pub data Fields : Type 0 where
   conn : (to type winsize published : ℕ) → Fields
-  ack : Begin → Fields
-  nack : Begin → (count from : ℕ) → Fields
-  udata : Begin → (more number dst src : ℕ) → (payload : List ℕ) → Fields
-  frag : Begin → (more number : ℕ) → (payload : List ℕ) → Fields
+  ack : HeadFields → Fields
+  nack : HeadFields → (count from : ℕ) → Fields
+  udata : HeadFields → (more number dst src : ℕ) → (payload : List ℕ) → Fields
+  frag : HeadFields → (more number : ℕ) → (payload : List ℕ) → Fields
 
 -- A flag as the bit that stands for it.
 abbrev pub bit : Bool → ℕ
 bit b = cond b 1 0
 
-abbrev pub begin : Head → Begin
-begin h = record { to = h .to .0; r = bit (h .request); ackno = h .ackno .0; seqno = h .seqno .0 }
+abbrev pub headFields : Head → HeadFields
+headFields h = record { to = h .to .0; r = bit (h .request); ackno = h .ackno .0; seqno = h .seqno .0 }
 
 -- The fields of a frame that the code holds.
 abbrev pub fields : Frame → Fields
 fields (Conn to kind window published) = conn (to .0) (typeNumber kind) (window .0) (published .0)
-fields (Ack h) = ack (begin h)
-fields (Nack h count from) = nack (begin h) count (from .0)
-fields (Udata h f dst src p) = udata (begin h) (bit (f .more)) (f .number) dst src (p .now)
-fields (Frag h f p) = frag (begin h) (bit (f .more)) (f .number) (p .now)
+fields (Ack h) = ack (headFields h)
+fields (Nack h count from) = nack (headFields h) count (from .0)
+fields (Udata h f dst src p) = udata (headFields h) (bit (f .more)) (f .number) dst src (p .now)
+fields (Frag h f p) = frag (headFields h) (bit (f .more)) (f .number) (p .now)
 
 -- The same of a frame or a fault.
 abbrev pub answer : {E : Type 0} → Result Frame E → Result Fields E

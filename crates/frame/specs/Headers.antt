@@ -9,7 +9,7 @@ use Rattle.frame.specs.declared.header.AfterAck.the-variants.{Last, Nack, Udat
 use Rattle.frame.specs.declared.header.MainHeader.{MainHeader}
 use Rattle.frame.specs.declared.header.AckHeader.{AckHeader}
 use Rattle.frame.specs.Numbers.{CONN, UDATA, FRAG, ACK, NACK, LAST}
-use Rattle.frame.specs.Fields.{begin}
+use Rattle.frame.specs.Fields.{headFields}
 use Rattle.frame.specs.Reader.{MainFields, AckFields}
 
 abbrev pub afterMain : AfterMain → ℕ
@@ -26,7 +26,7 @@ abbrev pub mainFields : MainHeader → MainFields
 mainFields m = record { next = afterMain (m .next); to = m .to .0; size = m .size }
 
 abbrev pub ackFields : AckHeader → AckFields
-ackFields a = record { next = afterAck (a .next); begin = begin (a .head) }
+ackFields a = record { next = afterAck (a .next); head = headFields (a .head) }
 
 abbrev pub mainAnswer : {E : Type 0} → Result MainHeader E → Result MainFields E
 mainAnswer (Ok m) = Ok (mainFields m)

@@ -3,7 +3,7 @@ use Prim.Native.Nat.{ℕ, _+_, _*_, _/_, _%_, _^_}
 use mathlib.Core.List.{List, [], _∷_, _++_, map}
 use lib.ListN.{length}
 use Rattle.std.specs.Joined.{joined}
-use Rattle.frame.specs.Fields.{Begin, Fields, conn, ack, nack, udata, frag}
+use Rattle.frame.specs.Fields.{HeadFields, Fields, conn, ack, nack, udata, frag}
 use Rattle.frame.specs.Numbers.{CONN, UDATA, FRAG, ACK, NACK, LAST}
 
 -- One word: for each field its width in bits and its value.
@@ -28,8 +28,8 @@ abbrev pub connRow : (type winsize published : ℕ) → Row
 connRow type winsize published = (4, LAST) ∷ (4, type) ∷ (4, winsize) ∷ (12, 0) ∷ (8, published) ∷ []
 
 -- ACK: Next, R, Res, Ackno, Seqno
-abbrev pub ackRow : (next : ℕ) → Begin → Row
-ackRow next b = (4, next) ∷ (1, b .r) ∷ (3, 0) ∷ (12, b .ackno) ∷ (12, b .seqno) ∷ []
+abbrev pub ackRow : (next : ℕ) → HeadFields → Row
+ackRow next h = (4, next) ∷ (1, h .r) ∷ (3, 0) ∷ (12, h .ackno) ∷ (12, h .seqno) ∷ []
 
 -- NACK: Next, Res, Count, Res, Seqno
 abbrev pub nackRow : (count from : ℕ) → Row
@@ -45,27 +45,27 @@ addressRow dst src = (16, dst) ∷ (16, src) ∷ []
 
 abbrev pub payload : Fields → List ℕ
 payload (conn to type winsize published) = []
-payload (ack b) = []
-payload (nack b count from) = []
-payload (udata b more number dst src p) = p
-payload (frag b more number p) = p
+payload (ack h) = []
+payload (nack h count from) = []
+payload (udata h more number dst src p) = p
+payload (frag h more number p) = p
 
 -- Packet size: the whole frame in bytes.
 abbrev pub size : Fields → ℕ
 size (conn to type winsize published) = 8
-size (ack b) = 8
-size (nack b count from) = 12
-size (udata b more number dst src p) = 20 + length p
-size (frag b more number p) = 12 + length p
+size (ack h) = 8
+size (nack h count from) = 12
+size (udata h more number dst src p) = 20 + length p
+size (frag h more number p) = 12 + length p
 
 -- The headers of each form, word by word.
 abbrev pub rows : Fields → List Row
 rows (conn to type winsize published) = mainRow CONN to 8 ∷ connRow type winsize published ∷ []
-rows (ack b) = mainRow ACK (b .to) 8 ∷ ackRow LAST b ∷ []
-rows (nack b count from) = mainRow ACK (b .to) 12 ∷ ackRow NACK b ∷ nackRow count from ∷ []
-rows (udata b more number dst src p) =
-    mainRow ACK (b .to) (20 + length p) ∷ ackRow UDATA b ∷ fragRow more number ∷ ((32, 0) ∷ []) ∷ addressRow dst src ∷ []
-rows (frag b more number p) = mainRow ACK (b .to) (12 + length p) ∷ ackRow FRAG b ∷ fragRow more number ∷ []
+rows (ack h) = mainRow ACK (h .to) 8 ∷ ackRow LAST h ∷ []
+rows (nack h count from) = mainRow ACK (h .to) 12 ∷ ackRow NACK h ∷ nackRow count from ∷ []
+rows (udata h more number dst src p) =
+    mainRow ACK (h .to) (20 + length p) ∷ ackRow UDATA h ∷ fragRow more number ∷ ((32, 0) ∷ []) ∷ addressRow dst src ∷ []
+rows (frag h more number p) = mainRow ACK (h .to) (12 + length p) ∷ ackRow FRAG h ∷ fragRow more number ∷ []
 
 -- The four bytes of a word, high byte first.
 abbrev pub bigEndian : ℕ → List ℕ

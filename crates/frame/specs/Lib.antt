@@ -1,8 +1,10 @@
 pub mod Numbers
+pub mod Faults
 pub mod Fields
 pub mod Layout
 pub mod Ranges
 pub mod Checks
 pub mod Reader
+pub mod Kinds
 pub mod Headers
 pub mod Writer

@@ -4,7 +4,7 @@ use mathlib.Core.Bool.{Bool, true, false, cond}
 use mathlib.Core.List.{List, [], _∷_}
 use lib.Dec.{eqb, ltb, leb}
 use lib.ListN.{length}
-use Rattle.frame.specs.Fields.{Begin, Fields, conn, ack, nack, udata, frag}
+use Rattle.frame.specs.Fields.{HeadFields, Fields, conn, ack, nack, udata, frag}
 
 -- Every test passes.
 abbrev pub all : List Bool → Bool
@@ -23,8 +23,8 @@ connFits to type winsize published =
     (cond (eqb type 3) (all (isNumber to ∷ eqb winsize 0 ∷ isNumber published ∷ []))
     (cond (eqb type 4) (all (isNumber to ∷ eqb winsize 0 ∷ eqb published 0 ∷ [])) false)))
 
-abbrev pub beginFits : Begin → Bool
-beginFits b = all (isNumber (b .to) ∷ ltb (b .r) 2 ∷ ltb (b .ackno) 4096 ∷ ltb (b .seqno) 4096 ∷ [])
+abbrev pub headFits : HeadFields → Bool
+headFits h = all (isNumber (h .to) ∷ ltb (h .r) 2 ∷ ltb (h .ackno) 4096 ∷ ltb (h .seqno) 4096 ∷ [])
 
 -- How many pieces a gap report names.
 abbrev pub countFits : ℕ → Bool
@@ -47,8 +47,8 @@ lengthFits least more n = cond (eqb more 1) (eqb n 256) (all (leb least n ∷ lt
 -- Every field is in its range.
 abbrev pub inRange : Fields → Bool
 inRange (conn to type winsize published) = connFits to type winsize published
-inRange (ack b) = beginFits b
-inRange (nack b count from) = all (beginFits b ∷ countFits count ∷ ltb from 4096 ∷ [])
-inRange (udata b more number dst src p) =
-    all (beginFits b ∷ udataFits more number ∷ lengthFits 0 more (length p) ∷ ltb dst 65536 ∷ ltb src 65536 ∷ [])
-inRange (frag b more number p) = all (beginFits b ∷ fragFits more number ∷ lengthFits 1 more (length p) ∷ [])
+inRange (ack h) = headFits h
+inRange (nack h count from) = all (headFits h ∷ countFits count ∷ ltb from 4096 ∷ [])
+inRange (udata h more number dst src p) =
+    all (headFits h ∷ udataFits more number ∷ lengthFits 0 more (length p) ∷ ltb dst 65536 ∷ ltb src 65536 ∷ [])
+inRange (frag h more number p) = all (headFits h ∷ fragFits more number ∷ lengthFits 1 more (length p) ∷ [])

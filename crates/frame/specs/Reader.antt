@@ -12,7 +12,8 @@ use Rattle.frame.specs.declared.fault.HeaderFault.{HeaderFault}
 use Rattle.frame.specs.declared.fault.FrameFault.{FrameFault}
 use Rattle.frame.specs.declared.fault.FrameFault.the-variants.{Main, Header}
 use Rattle.frame.specs.Numbers.{CONN, UDATA, ACK, NACK, FRAG, LAST}
-use Rattle.frame.specs.Fields.{Begin, Fields, conn, ack, nack, udata, frag}
+use Rattle.frame.specs.Faults.{at}
+use Rattle.frame.specs.Fields.{HeadFields, Fields, conn, ack, nack, udata, frag}
 use Rattle.frame.specs.Ranges.{connFits, countFits, udataFits, fragFits, lengthFits}
 use Rattle.frame.specs.Checks.{Checks, judged, then}
 
@@ -26,9 +27,6 @@ field w low width = w / 2 ^ low % 2 ^ width
 
 abbrev pub isNot : ℕ → ℕ → Bool
 isNot n m = not (eqb n m)
-
-abbrev pub at : ℕ → Cause → HeaderFault
-at place cause = record { cause = cause; place = place }
 
 -- The bytes behind the headers and before the padding.
 abbrev pub part : (from size : ℕ) → List ℕ → List ℕ
@@ -44,13 +42,13 @@ abbrev pub mainOf : List ℕ → Result MainFields FrameFault
 mainOf bs =
     let w : ℕ = wordAt bs 0 in
     judged ((ltb (length bs) 4, Main Short)
-      ∷ (ltb (length bs) (field w 0 15), Main Short)
-      ∷ (isNot (field w 25 3) 3, Main Version)
-      ∷ (isNot (field w 24 1) 0, Main Reserved)
-      ∷ (isNot (field w 15 1) 0, Main Reserved)
-      ∷ (cond (eqb (field w 28 4) CONN) false (isNot (field w 28 4) ACK), Main Next)
-      ∷ (cond (eqb (field w 28 4) ACK) (eqb (field w 16 8) 0) false, Main Range)
-      ∷ [])
+    ∷ (ltb (length bs) (field w 0 15), Main Short)
+    ∷ (isNot (field w 25 3) 3, Main Version)
+    ∷ (isNot (field w 24 1) 0, Main Reserved)
+    ∷ (isNot (field w 15 1) 0, Main Reserved)
+    ∷ (cond (eqb (field w 28 4) CONN) false (isNot (field w 28 4) ACK), Main Next)
+    ∷ (cond (eqb (field w 28 4) ACK) (eqb (field w 16 8) 0) false, Main Range)
+    ∷ [])
     (record { next = field w 28 4; to = field w 16 8; size = field w 0 15 })
 
 -- CONN, at byte 4: Next 4, Type 4, Winsize 4, Res 12, Published 8
@@ -58,76 +56,76 @@ abbrev pub connOf : List ℕ → MainFields → Result Fields HeaderFault
 connOf bs m =
     let w : ℕ = wordAt bs 4 in
     judged ((ltb (m .size) 8, at 4 Size)
-      ∷ (isNot (field w 8 12) 0, at 4 Reserved)
-      ∷ (isNot (field w 28 4) LAST, at 4 Next)
-      ∷ (not (connFits (m .to) (field w 24 4) (field w 20 4) (field w 0 8)), at 4 Range)
-      ∷ (isNot (m .size) 8, at 4 Size)
-      ∷ [])
+    ∷ (isNot (field w 8 12) 0, at 4 Reserved)
+    ∷ (isNot (field w 28 4) LAST, at 4 Next)
+    ∷ (not (connFits (m .to) (field w 24 4) (field w 20 4) (field w 0 8)), at 4 Range)
+    ∷ (isNot (m .size) 8, at 4 Size)
+    ∷ [])
     (conn (m .to) (field w 24 4) (field w 20 4) (field w 0 8))
 
 -- ACK, at byte 4: Next 4, R 1, Res 3, Ackno 12, Seqno 12
 pub record AckFields : Type 0 where
   pub next : ℕ
-  pub begin : Begin
+  pub head : HeadFields
 
 abbrev pub ackOf : List ℕ → MainFields → Result AckFields HeaderFault
 ackOf bs m =
     let w : ℕ = wordAt bs 4 in
     let n : ℕ = field w 28 4 in
     judged ((ltb (m .size) 8, at 4 Size)
-      ∷ (isNot (field w 24 3) 0, at 4 Reserved)
-      ∷ (cond (eqb n LAST) false (cond (eqb n NACK) false (cond (eqb n UDATA) false (isNot n FRAG))), at 4 Next)
-      ∷ [])
-    (record { next = n; begin = record { to = m .to; r = field w 27 1; ackno = field w 12 12; seqno = field w 0 12 } })
+    ∷ (isNot (field w 24 3) 0, at 4 Reserved)
+    ∷ (cond (eqb n LAST) false (cond (eqb n NACK) false (cond (eqb n UDATA) false (isNot n FRAG))), at 4 Next)
+    ∷ [])
+    (record { next = n; head = record { to = m .to; r = field w 27 1; ackno = field w 12 12; seqno = field w 0 12 } })
 
 -- ACK as the last header
-abbrev pub lastOf : MainFields → Begin → Result Fields HeaderFault
-lastOf m b = judged ((isNot (m .size) 8, at 4 Size) ∷ []) (ack b)
+abbrev pub lastOf : MainFields → HeadFields → Result Fields HeaderFault
+lastOf m h = judged ((isNot (m .size) 8, at 4 Size) ∷ []) (ack h)
 
 -- NACK, at byte 8: Next 4, Res 4, Count 8, Res 4, Seqno 12
-abbrev pub nackOf : List ℕ → MainFields → Begin → Result Fields HeaderFault
-nackOf bs m b =
+abbrev pub nackOf : List ℕ → MainFields → HeadFields → Result Fields HeaderFault
+nackOf bs m h =
     let w : ℕ = wordAt bs 8 in
     judged ((ltb (m .size) 12, at 8 Size)
-      ∷ (isNot (field w 24 4) 0, at 8 Reserved)
-      ∷ (isNot (field w 12 4) 0, at 8 Reserved)
-      ∷ (isNot (field w 28 4) LAST, at 8 Next)
-      ∷ (not (countFits (field w 16 8)), at 8 Range)
-      ∷ (isNot (m .size) 12, at 8 Size)
-      ∷ [])
-    (nack b (field w 16 8) (field w 0 12))
+    ∷ (isNot (field w 24 4) 0, at 8 Reserved)
+    ∷ (isNot (field w 12 4) 0, at 8 Reserved)
+    ∷ (isNot (field w 28 4) LAST, at 8 Next)
+    ∷ (not (countFits (field w 16 8)), at 8 Range)
+    ∷ (isNot (m .size) 12, at 8 Size)
+    ∷ [])
+    (nack h (field w 16 8) (field w 0 12))
 
 -- UDATA, at byte 8: Next 4, Res 12, M 1, Frag no 15; Res 32; Dst 16, Src 16
-abbrev pub udataOf : List ℕ → MainFields → Begin → Result Fields HeaderFault
-udataOf bs m b =
+abbrev pub udataOf : List ℕ → MainFields → HeadFields → Result Fields HeaderFault
+udataOf bs m h =
     let w : ℕ = wordAt bs 8 in
     judged ((ltb (m .size) 20, at 8 Size)
-      ∷ (isNot (field w 16 12) 0, at 8 Reserved)
-      ∷ (isNot (wordAt bs 12) 0, at 8 Reserved)
-      ∷ (isNot (field w 28 4) LAST, at 8 Next)
-      ∷ (not (udataFits (field w 15 1) (field w 0 15)), at 8 Range)
-      ∷ (not (lengthFits 0 (field w 15 1) (m .size - 20)), at 8 Size)
-      ∷ [])
-    (udata b (field w 15 1) (field w 0 15) (field (wordAt bs 16) 16 16) (field (wordAt bs 16) 0 16) (part 20 (m .size) bs))
+    ∷ (isNot (field w 16 12) 0, at 8 Reserved)
+    ∷ (isNot (wordAt bs 12) 0, at 8 Reserved)
+    ∷ (isNot (field w 28 4) LAST, at 8 Next)
+    ∷ (not (udataFits (field w 15 1) (field w 0 15)), at 8 Range)
+    ∷ (not (lengthFits 0 (field w 15 1) (m .size - 20)), at 8 Size)
+    ∷ [])
+    (udata h (field w 15 1) (field w 0 15) (field (wordAt bs 16) 16 16) (field (wordAt bs 16) 0 16) (part 20 (m .size) bs))
 
 -- FRAG, at byte 8: Next 4, Res 12, M 1, Frag no 15
-abbrev pub fragOf : List ℕ → MainFields → Begin → Result Fields HeaderFault
-fragOf bs m b =
+abbrev pub fragOf : List ℕ → MainFields → HeadFields → Result Fields HeaderFault
+fragOf bs m h =
     let w : ℕ = wordAt bs 8 in
     judged ((ltb (m .size) 12, at 8 Size)
-      ∷ (isNot (field w 16 12) 0, at 8 Reserved)
-      ∷ (isNot (field w 28 4) LAST, at 8 Next)
-      ∷ (not (fragFits (field w 15 1) (field w 0 15)), at 8 Range)
-      ∷ (not (lengthFits 1 (field w 15 1) (m .size - 12)), at 8 Size)
-      ∷ [])
-    (frag b (field w 15 1) (field w 0 15) (part 12 (m .size) bs))
+    ∷ (isNot (field w 16 12) 0, at 8 Reserved)
+    ∷ (isNot (field w 28 4) LAST, at 8 Next)
+    ∷ (not (fragFits (field w 15 1) (field w 0 15)), at 8 Range)
+    ∷ (not (lengthFits 1 (field w 15 1) (m .size - 12)), at 8 Size)
+    ∷ [])
+    (frag h (field w 15 1) (field w 0 15) (part 12 (m .size) bs))
 
 -- Next names the header that follows ACK.
 abbrev pub behindAck : List ℕ → MainFields → AckFields → Result Fields HeaderFault
 behindAck bs m a =
-    cond (eqb (a .next) LAST) (lastOf m (a .begin))
-    (cond (eqb (a .next) NACK) (nackOf bs m (a .begin))
-    (cond (eqb (a .next) UDATA) (udataOf bs m (a .begin)) (fragOf bs m (a .begin))))
+    cond (eqb (a .next) LAST) (lastOf m (a .head))
+    (cond (eqb (a .next) NACK) (nackOf bs m (a .head))
+    (cond (eqb (a .next) UDATA) (udataOf bs m (a .head)) (fragOf bs m (a .head))))
 
 abbrev pub dataOf : List ℕ → MainFields → Result Fields HeaderFault
 dataOf bs m = then (λ e. e) (ackOf bs m) (behindAck bs m)

@@ -1,7 +1,7 @@
 //! Why bytes are no frame: the cause, the place of the header at fault, and the layer that noticed.
 ghost use mathlib.Core.Path.{_≡_};
 ghost use Rattle.frame.specs.Numbers.{causeNumber};
-ghost use Rattle.frame.specs.Reader.{at as atPlace};
+ghost use Rattle.frame.specs.Faults.{at as atPlace, causeOf, placeOf, layerOf};
 ghost use Rattle.frame.specs.declared.fault.FrameFault.the-variants.{Header};
 
 #[derive(Clone, Copy, PartialEq, Eq, Debug)]
@@ -61,6 +61,38 @@ pub enum FrameFault {
     Main(Cause),
     /// In a later header, passed on whole.
     Header(HeaderFault),
+}
+
+impl FrameFault {
+    /// Why the bytes are no frame.
+    pub fn cause(self) -> Cause
+        ensures { λ r. ⌜ r ≡ causeOf self ⌝ }
+    {
+        match self {
+            FrameFault::Main(cause) => cause,
+            FrameFault::Header(fault) => fault.cause,
+        }
+    }
+
+    /// The byte at which the header at fault begins.
+    pub fn place(self) -> u8
+        ensures { λ r. ⌜ r ≡ placeOf self ⌝ }
+    {
+        match self {
+            FrameFault::Main(_) => 0,
+            FrameFault::Header(fault) => fault.place,
+        }
+    }
+
+    /// The layer that noticed.
+    pub fn layer(self) -> Layer
+        ensures { λ r. ⌜ r ≡ layerOf self ⌝ }
+    {
+        match self {
+            FrameFault::Main(_) => Layer::Frame,
+            FrameFault::Header(_) => Layer::Header,
+        }
+    }
 }
 
 pub impl From<HeaderFault> for FrameFault as FrameFromHeader {

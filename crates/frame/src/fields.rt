@@ -59,7 +59,7 @@ pub struct Fragment {
     pub number: u16,
 }
 
-/// The fields that ACK, NACK, UDATA and FRAG frames begin with.
+/// The fields that ACK, NACK, UDATA and FRAG frames headFields with.
 #[derive(Clone, Copy, PartialEq, Eq, Debug)]
 pub struct Head {
     /// Conn ID: the receiver's connection number.

@@ -3,6 +3,7 @@ ghost use mathlib.Core.Path.{_≡_};
 ghost use Prim.Native.Nat.{_<_, _^_};
 ghost use Rattle.frame.specs.Fields.{fields};
 ghost use Rattle.frame.specs.Layout.{size};
+ghost use Rattle.frame.specs.Kinds.{kindNumber, kindOf};
 use crate::fields::ConnId;
 use crate::fields::ConnType;
 use crate::fields::Fragment;
@@ -21,9 +22,15 @@ pub enum Frame<'a> {
         published: ConnId,
     },
     /// MAIN ACK: tells what has arrived.
-    Ack { head: Head },
+    Ack {
+        head: Head,
+    },
     /// MAIN ACK NACK: a gap report, `count` pieces missing from `from` on.
-    Nack { head: Head, count: u8, from: SeqNo },
+    Nack {
+        head: Head,
+        count: u8,
+        from: SeqNo,
+    },
     /// MAIN ACK UDATA: a whole message, or its first piece.
     Udata {
         head: Head,
@@ -40,7 +47,55 @@ pub enum Frame<'a> {
     },
 }
 
+/// What a frame is, as the C caller is told.
+#[derive(Clone, Copy, PartialEq, Eq, Debug)]
+pub enum Kind {
+    Connect,
+    ConnectAck,
+    ConnAck,
+    Reset,
+    Ack,
+    Nack,
+    Udata,
+    Frag,
+}
+
+impl Kind {
+    pub fn number(self) -> u8
+        ensures { λ r. ⌜ r ≡ kindNumber self ⌝ }
+    {
+        match self {
+            Kind::Connect => 1,
+            Kind::ConnectAck => 2,
+            Kind::ConnAck => 3,
+            Kind::Reset => 4,
+            Kind::Ack => 5,
+            Kind::Nack => 6,
+            Kind::Udata => 7,
+            Kind::Frag => 8,
+        }
+    }
+}
+
 impl Frame<'_> {
+    /// The kind of the frame: the type of a CONN frame, else the last header.
+    pub fn kind(self) -> Kind
+        ensures { λ r. ⌜ kindNumber r ≡ kindOf (fields (self .entry)) ⌝ }
+    {
+        match self {
+            Frame::Conn { kind, .. } => match kind {
+                ConnType::Connect => Kind::Connect,
+                ConnType::ConnectAck => Kind::ConnectAck,
+                ConnType::Ack => Kind::ConnAck,
+                ConnType::Reset => Kind::Reset,
+            },
+            Frame::Ack { .. } => Kind::Ack,
+            Frame::Nack { .. } => Kind::Nack,
+            Frame::Udata { .. } => Kind::Udata,
+            Frame::Frag { .. } => Kind::Frag,
+        }
+    }
+
     /// The packet size: the length of the whole frame in bytes.
     pub fn size(self) -> usize
         ensures { λ r. ⌜ r ≡ size (fields (self .entry)) ⌝ }

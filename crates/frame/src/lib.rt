@@ -1,4 +1,5 @@
 //! The frames of a LINX Ethernet connection.
+mod dock;
 mod fault;
 mod fields;
 mod form;
@@ -7,6 +8,7 @@ mod range;
 mod reader;
 mod writer;
 
+pub use dock::linx_frame_read;
 pub use fault::Cause;
 pub use fault::FrameFault;
 pub use fault::FrameFromHeader;
@@ -19,5 +21,7 @@ pub use fields::Head;
 pub use fields::SeqNo;
 pub use fields::WindowExponent;
 pub use form::Frame;
+pub use form::Kind;
 pub use reader::read;
 pub use writer::Refusal;
+pub use writer::write;

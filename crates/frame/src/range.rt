@@ -1,8 +1,8 @@
 //! Which values the fields of a frame may have. Reader and writer ask the same questions.
 ghost use mathlib.Core.Path.{_≡_};
-ghost use Rattle.frame.specs.Fields.{fields, begin, bit};
+ghost use Rattle.frame.specs.Fields.{fields, headFields, bit};
 ghost use Rattle.frame.specs.Numbers.{typeNumber};
-ghost use Rattle.frame.specs.Ranges.{connFits, beginFits, countFits, udataFits, fragFits, lengthFits, inRange};
+ghost use Rattle.frame.specs.Ranges.{connFits, headFits, countFits, udataFits, fragFits, lengthFits, inRange};
 use crate::fields::ConnId;
 use crate::fields::ConnType;
 use crate::fields::Fragment;
@@ -24,7 +24,7 @@ pub fn conn_fits(to: ConnId, kind: ConnType, window: WindowExponent, published: 
 }
 
 fn head_fits(head: Head) -> bool
-    ensures { λ r. ⌜ r ≡ beginFits (begin head) ⌝ }
+    ensures { λ r. ⌜ r ≡ headFits (headFields head) ⌝ }
 {
     head.to.0 > 0 && head.ackno.0 < 4096 && head.seqno.0 < 4096
 }
@@ -74,13 +74,27 @@ pub fn in_range(frame: Frame) -> bool
     ensures { λ r. ⌜ r ≡ inRange (fields (frame .entry)) ⌝ }
 {
     match frame {
-        Frame::Conn { to, kind, window, published } => conn_fits(to, kind, window, published),
+        Frame::Conn {
+            to,
+            kind,
+            window,
+            published,
+        } => conn_fits(to, kind, window, published),
         Frame::Ack { head } => head_fits(head),
         Frame::Nack { head, count, from } => head_fits(head) && count_fits(count) && from.0 < 4096,
-        Frame::Udata { head, fragment, payload, .. } => {
+        Frame::Udata {
+            head,
+            fragment,
+            payload,
+            ..
+        } => {
             head_fits(head) && udata_fits(fragment) && length_fits(0, fragment.more, payload.len())
         }
-        Frame::Frag { head, fragment, payload } => {
+        Frame::Frag {
+            head,
+            fragment,
+            payload,
+        } => {
             head_fits(head) && frag_fits(fragment) && length_fits(1, fragment.more, payload.len())
         }
     }

@@ -3,8 +3,8 @@ ghost use mathlib.Core.Path.{_≡_};
 ghost use Prim.Native.Nat.{_+_, _<_, _≤_};
 ghost use lib.ListN.{length};
 ghost use Rattle.std.specs.Vec.{made};
-ghost use Rattle.frame.specs.Fields.{begin, bit, answer};
-ghost use Rattle.frame.specs.Reader.{wordAt, field as bitsOf, at as atPlace, mainOf, connOf, ackOf, lastOf, nackOf, udataOf, fragOf, behindMain, frameOf};
+ghost use Rattle.frame.specs.Fields.{headFields, bit, answer};
+ghost use Rattle.frame.specs.Reader.{wordAt, field as bitsOf, mainOf, connOf, ackOf, lastOf, nackOf, udataOf, fragOf, behindMain, frameOf};
 ghost use Rattle.frame.specs.Headers.{mainFields, mainAnswer, ackAnswer};
 use crate::fault::Cause;
 use crate::fault::FrameFault;
@@ -67,7 +67,9 @@ fn read_main(bytes: &[u8]) -> Result<MainHeader, FrameFault>
         _ => return Err(FrameFault::Main(Cause::Next)),
     };
     let to = ConnId(field(w, 16, 8) as u8);
-    if let AfterMain::Ack = next && to.0 == 0 {
+    if let AfterMain::Ack = next
+        && to.0 == 0
+    {
         return Err(FrameFault::Main(Cause::Range));
     }
     Ok(MainHeader { next, to, size })
@@ -126,11 +128,16 @@ fn read_conn<'a>(bytes: &'a [u8], main: MainHeader) -> Result<Frame<'a>, HeaderF
     if main.size != 8 {
         return Err(Cause::Size.at(4));
     }
-    Ok(Frame::Conn { to, kind, window, published })
+    Ok(Frame::Conn {
+        to,
+        kind,
+        window,
+        published,
+    })
 }
 
 fn read_last<'a>(main: MainHeader, head: Head) -> Result<Frame<'a>, HeaderFault>
-    ensures { λ r. ⌜ answer r ≡ lastOf (mainFields main) (begin head) ⌝ }
+    ensures { λ r. ⌜ answer r ≡ lastOf (mainFields main) (headFields head) ⌝ }
 {
     if main.size != 8 {
         return Err(Cause::Size.at(4));
@@ -140,7 +147,7 @@ fn read_last<'a>(main: MainHeader, head: Head) -> Result<Frame<'a>, HeaderFault>
 
 fn read_nack<'a>(bytes: &'a [u8], main: MainHeader, head: Head) -> Result<Frame<'a>, HeaderFault>
     requires { ⌜ main .size ≤ length (now bytes) ⌝ }
-    ensures { λ r. ⌜ answer r ≡ nackOf (now (bytes .entry)) (mainFields main) (begin head) ⌝ }
+    ensures { λ r. ⌜ answer r ≡ nackOf (now (bytes .entry)) (mainFields main) (headFields head) ⌝ }
 {
     if main.size < 12 {
         return Err(Cause::Size.at(8));
@@ -165,7 +172,7 @@ fn read_nack<'a>(bytes: &'a [u8], main: MainHeader, head: Head) -> Result<Frame<
 
 fn read_udata<'a>(bytes: &'a [u8], main: MainHeader, head: Head) -> Result<Frame<'a>, HeaderFault>
     requires { ⌜ main .size ≤ length (now bytes) ⌝ }
-    ensures { λ r. ⌜ answer r ≡ udataOf (now (bytes .entry)) (mainFields main) (begin head) ⌝ }
+    ensures { λ r. ⌜ answer r ≡ udataOf (now (bytes .entry)) (mainFields main) (headFields head) ⌝ }
 {
     if main.size < 20 {
         return Err(Cause::Size.at(8));
@@ -189,12 +196,18 @@ fn read_udata<'a>(bytes: &'a [u8], main: MainHeader, head: Head) -> Result<Frame
     let src = field(addresses, 0, 16) as u16;
     let end = main.size;
     let payload = &bytes[20..end];
-    Ok(Frame::Udata { head, fragment, dst, src, payload })
+    Ok(Frame::Udata {
+        head,
+        fragment,
+        dst,
+        src,
+        payload,
+    })
 }
 
 fn read_frag<'a>(bytes: &'a [u8], main: MainHeader, head: Head) -> Result<Frame<'a>, HeaderFault>
     requires { ⌜ main .size ≤ length (now bytes) ⌝ }
-    ensures { λ r. ⌜ answer r ≡ fragOf (now (bytes .entry)) (mainFields main) (begin head) ⌝ }
+    ensures { λ r. ⌜ answer r ≡ fragOf (now (bytes .entry)) (mainFields main) (headFields head) ⌝ }
 {
     if main.size < 12 {
         return Err(Cause::Size.at(8));
@@ -215,7 +228,11 @@ fn read_frag<'a>(bytes: &'a [u8], main: MainHeader, head: Head) -> Result<Frame<
     }
     let end = main.size;
     let payload = &bytes[12..end];
-    Ok(Frame::Frag { head, fragment, payload })
+    Ok(Frame::Frag {
+        head,
+        fragment,
+        payload,
+    })
 }
 
 // M and Frag no, the lower half of the first word of UDATA and of FRAG.

@@ -5,7 +5,7 @@ ghost use mathlib.Core.List.{_++_};
 ghost use Prim.Native.Nat.{_+_, _*_, _<_, _≤_};
 ghost use lib.ListN.{length, drop};
 ghost use Rattle.std.specs.shelf.Lists.{paste};
-ghost use Rattle.frame.specs.Fields.{fields, begin, bit, udata, frag};
+ghost use Rattle.frame.specs.Fields.{fields, headFields, bit, udata, frag};
 ghost use Rattle.frame.specs.Numbers.{typeNumber};
 ghost use Rattle.frame.specs.Layout.{packed, mainRow, connRow, ackRow, nackRow, fragRow, addressRow, bigEndian, laid, size};
 ghost use Rattle.frame.specs.Headers.{afterMain, afterAck};
@@ -42,12 +42,15 @@ fn conn_word(kind: ConnType, window: WindowExponent, published: ConnId) -> u32
     requires { ⌜ window .0 < 16 ⌝ }
     ensures { λ r. ⌜ r ≡ packed (connRow (typeNumber kind) (window .0) (published .0)) ⌝ }
 {
-    (15 << 28) + (u32::from(kind.number()) << 24) + (u32::from(window.0) << 20) + u32::from(published.0)
+    (15 << 28)
+        + (u32::from(kind.number()) << 24)
+        + (u32::from(window.0) << 20)
+        + u32::from(published.0)
 }
 
 fn ack_word(next: AfterAck, head: Head) -> u32
     requires { ⌜ head .ackno .0 < 4096 ⌝ ∗ ⌜ head .seqno .0 < 4096 ⌝ }
-    ensures { λ r. ⌜ r ≡ packed (ackRow (afterAck next) (begin head)) ⌝ }
+    ensures { λ r. ⌜ r ≡ packed (ackRow (afterAck next) (headFields head)) ⌝ }
 {
     ((next as u32) << 28)
         + (u32::from(head.request) << 27)
@@ -112,24 +115,41 @@ fn put_frame(place: &mut [u8], headers: &[u32], payload: &[u8]) -> usize
     at + payload.len()
 }
 
-fn write_udata(head: Head, fragment: Fragment, dst: u16, src: u16, payload: &[u8], place: &mut [u8]) -> usize
-    requires range { ⌜ inRange (udata (begin head) (bit (fragment .more)) (fragment .number) dst src (now payload)) ≡ true ⌝ }
+fn write_udata(
+    head: Head,
+    fragment: Fragment,
+    dst: u16,
+    src: u16,
+    payload: &[u8],
+    place: &mut [u8],
+) -> usize
+    requires range { ⌜ inRange (udata (headFields head) (bit (fragment .more)) (fragment .number) dst src (now payload)) ≡ true ⌝ }
     requires room { ⌜ 20 + length (now payload) ≤ length (now place) ⌝ }
-    ensures { λ r. ⌜ Wrote (udata (begin head) (bit (fragment .more)) (fragment .number) dst src (now (payload .entry))) (now (place .entry)) r (now (place .exit)) ⌝ }
+    ensures { λ r. ⌜ Wrote (udata (headFields head) (bit (fragment .more)) (fragment .number) dst src (now (payload .entry))) (now (place .entry)) r (now (place .exit)) ⌝ }
 {
     let main = main_word(AfterMain::Ack, head.to, 20 + payload.len());
     let ack = ack_word(AfterAck::Udata, head);
-    let headers = [main, ack, fragment_word(fragment), 0, address_word(dst, src)];
+    let headers = [
+        main,
+        ack,
+        fragment_word(fragment),
+        0,
+        address_word(dst, src),
+    ];
     put_frame(place, &headers, payload)
 }
 
 fn write_frag(head: Head, fragment: Fragment, payload: &[u8], place: &mut [u8]) -> usize
-    requires range { ⌜ inRange (frag (begin head) (bit (fragment .more)) (fragment .number) (now payload)) ≡ true ⌝ }
+    requires range { ⌜ inRange (frag (headFields head) (bit (fragment .more)) (fragment .number) (now payload)) ≡ true ⌝ }
     requires room { ⌜ 12 + length (now payload) ≤ length (now place) ⌝ }
-    ensures { λ r. ⌜ Wrote (frag (begin head) (bit (fragment .more)) (fragment .number) (now (payload .entry))) (now (place .entry)) r (now (place .exit)) ⌝ }
+    ensures { λ r. ⌜ Wrote (frag (headFields head) (bit (fragment .more)) (fragment .number) (now (payload .entry))) (now (place .entry)) r (now (place .exit)) ⌝ }
 {
     let main = main_word(AfterMain::Ack, head.to, 12 + payload.len());
-    let headers = [main, ack_word(AfterAck::Frag, head), fragment_word(fragment)];
+    let headers = [
+        main,
+        ack_word(AfterAck::Frag, head),
+        fragment_word(fragment),
+    ];
     put_frame(place, &headers, payload)
 }
 
@@ -140,12 +160,23 @@ fn write_fit(frame: Frame, place: &mut [u8]) -> usize
     ensures { λ r. ⌜ Wrote (fields (frame .entry)) (now (place .entry)) r (now (place .exit)) ⌝ }
 {
     match frame {
-        Frame::Conn { to, kind, window, published } => {
-            let headers = [main_word(AfterMain::Conn, to, 8), conn_word(kind, window, published)];
+        Frame::Conn {
+            to,
+            kind,
+            window,
+            published,
+        } => {
+            let headers = [
+                main_word(AfterMain::Conn, to, 8),
+                conn_word(kind, window, published),
+            ];
             put_frame(place, &headers, &[])
         }
         Frame::Ack { head } => {
-            let headers = [main_word(AfterMain::Ack, head.to, 8), ack_word(AfterAck::Last, head)];
+            let headers = [
+                main_word(AfterMain::Ack, head.to, 8),
+                ack_word(AfterAck::Last, head),
+            ];
             put_frame(place, &headers, &[])
         }
         Frame::Nack { head, count, from } => {
@@ -153,10 +184,18 @@ fn write_fit(frame: Frame, place: &mut [u8]) -> usize
             let headers = [main, ack_word(AfterAck::Nack, head), nack_word(count, from)];
             put_frame(place, &headers, &[])
         }
-        Frame::Udata { head, fragment, dst, src, payload } => {
-            write_udata(head, fragment, dst, src, payload, place)
-        }
-        Frame::Frag { head, fragment, payload } => write_frag(head, fragment, payload, place),
+        Frame::Udata {
+            head,
+            fragment,
+            dst,
+            src,
+            payload,
+        } => { write_udata(head, fragment, dst, src, payload, place) }
+        Frame::Frag {
+            head,
+            fragment,
+            payload,
+        } => write_frag(head, fragment, payload, place),
     }
 }
 

@@ -13,7 +13,7 @@ returns c =
     record {
       value = search needs;
       after =
-        c .put-words .ensures
-        ∙ ap (λ (d : List ℕ). laid ws ++ drop (4 * length ws) d) (c .put-at .ensures)
-        ∙ ap (λ (d : List ℕ). laid ws ++ d) (drop-pasted (c .args .place .now) (c .args .payload .now) (4 * length ws) (c .pre));
+          c .put-words .ensures
+          ∙ ap (λ (d : List ℕ). laid ws ++ drop (4 * length ws) d) (c .put-at .ensures)
+          ∙ ap (λ (d : List ℕ). laid ws ++ d) (drop-pasted (c .args .place .now) (c .args .payload .now) (4 * length ws) (c .pre));
     }
