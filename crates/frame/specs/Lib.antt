@@ -8,3 +8,4 @@ pub mod Reader
 pub mod Kinds
 pub mod Headers
 pub mod Writer
+pub mod Laws

@@ -5,6 +5,7 @@ ghost use lib.ListN.{length};
 ghost use Rattle.std.specs.Vec.{made};
 ghost use Rattle.frame.specs.Fields.{headFields, bit, answer};
 ghost use Rattle.frame.specs.Reader.{wordAt, field as bitsOf, mainOf, connOf, ackOf, lastOf, nackOf, udataOf, fragOf, behindMain, frameOf};
+ghost use Rattle.frame.specs.Laws.{Means};
 ghost use Rattle.frame.specs.Headers.{mainFields, mainAnswer, ackAnswer};
 use crate::fault::Cause;
 use crate::fault::FrameFault;
@@ -262,11 +263,19 @@ fn read_behind<'a>(bytes: &'a [u8], main: MainHeader) -> Result<Frame<'a>, Heade
     }
 }
 
-/// Reads the frame at the front of the bytes; what lies behind its packet size is padding.
-pub fn read<'a>(bytes: &'a [u8]) -> Result<Frame<'a>, FrameFault>
+// Header after header, by the rules' order.
+fn parse<'a>(bytes: &'a [u8]) -> Result<Frame<'a>, FrameFault>
     ensures { λ r. ⌜ answer r ≡ frameOf (now (bytes .entry)) ⌝ }
 {
     let main = read_main(bytes)?;
     let frame = read_behind(bytes, main)?;
     Ok(frame)
+}
+
+/// Reads the frame at the front of the bytes; what lies behind its packet size is padding.
+pub fn read<'a>(bytes: &'a [u8]) -> Result<Frame<'a>, FrameFault>
+    ensures value { λ r. ⌜ answer r ≡ frameOf (now (bytes .entry)) ⌝ }
+    ensures meaning { λ r. ⌜ Means (now (bytes .entry)) (answer r) ⌝ }
+{
+    parse(bytes)
 }

@@ -11,6 +11,7 @@ ghost use Rattle.frame.specs.Layout.{packed, mainRow, connRow, ackRow, nackRow
 ghost use Rattle.frame.specs.Headers.{afterMain, afterAck};
 ghost use Rattle.frame.specs.Ranges.{inRange};
 ghost use Rattle.frame.specs.Writer.{written, placed, Wrote};
+ghost use Rattle.frame.specs.Laws.{Reads-back};
 use crate::fields::ConnId;
 use crate::fields::ConnType;
 use crate::fields::Fragment;
@@ -199,8 +200,8 @@ fn write_fit(frame: Frame, place: &mut [u8]) -> usize
     }
 }
 
-/// Writes a frame to the front of a place and answers its length.
-pub fn write(frame: Frame, place: &mut [u8]) -> Result<usize, Refusal>
+// A frame that fits is written; any other leaves the place as it was.
+fn try_write(frame: Frame, place: &mut [u8]) -> Result<usize, Refusal>
     ensures value { λ r. ⌜ r ≡ written (fields (frame .entry)) (now (place .entry)) ⌝ }
     ensures after { λ r. ⌜ now (place .exit) ≡ placed r (fields (frame .entry)) (now (place .entry)) ⌝ }
 {
@@ -211,4 +212,13 @@ pub fn write(frame: Frame, place: &mut [u8]) -> Result<usize, Refusal>
         return Err(Refusal::Room);
     }
     Ok(write_fit(frame, place))
+}
+
+/// Writes a frame to the front of a place and answers its length.
+pub fn write(frame: Frame, place: &mut [u8]) -> Result<usize, Refusal>
+    ensures value { λ r. ⌜ r ≡ written (fields (frame .entry)) (now (place .entry)) ⌝ }
+    ensures after { λ r. ⌜ now (place .exit) ≡ placed r (fields (frame .entry)) (now (place .entry)) ⌝ }
+    ensures reads_back { λ r. ⌜ Reads-back r (fields (frame .entry)) (now (place .exit)) ⌝ }
+{
+    try_write(frame, place)
 }
