@@ -4,9 +4,9 @@ use mathlib.Core.Bool.{Bool, true, false, cond, not}
 use mathlib.Core.List.{List, [], _∷_, _++_}
 use Prim.Native.Nat.{ℕ, _+_, _-_, _<_, _≤_}
 use native.Mathlib.Omega.{arith}
-use lib.Dec.{eqb, ltb}
+use lib.Dec.{eqb}
 use lib.ListN.{length, take, drop}
-use borrow.Author.Tests.{ltb-false, eqb-true, eqb-false, lt-ltb}
+use borrow.Author.Tests.{ltb-false, eqb-true, eqb-false}
 use Rattle.std.proofs.shelf.Tests.{not-false}
 use Rattle.std.proofs.shelf.Lists.{take-append-drop, drop-drop, length-take-le, length-drop}
 use Rattle.std.specs.declared.result.Result.{Result}
@@ -17,14 +17,14 @@ use Rattle.frame.specs.declared.fault.HeaderFault.{HeaderFault}
 use Rattle.frame.specs.Numbers.{CONN, UDATA, ACK, NACK, FRAG, LAST}
 use Rattle.frame.specs.Fields.{HeadFields, Fields, conn, ack, nack, udata, frag}
 use Rattle.frame.specs.Layout.{Row, packed, mainRow, connRow, ackRow, nackRow, fragRow, addressRow, bigEndian, bytes}
-use Rattle.frame.specs.Ranges.{all, isNumber, connFits, headFits, countFits, udataFits, fragFits, lengthFits, inRange}
+use Rattle.frame.specs.Ranges.{all, within, isNumber, connFits, headFits, countFits, udataFits, fragFits, lengthFits, inRange}
 use Rattle.frame.specs.Checks.{judged, then}
 use Rattle.frame.specs.Reader.{MainFields, AckFields, wordAt, field, part, isNot, isOneOf, mainChecks, mainWord, mainOf, connChecks, connOf, ackChecks, ackWord, ackOf, lastChecks, lastOf, nackChecks, nackOf, udataChecks, udataOf, fragChecks, fragOf, behindAck, behindMain, frameOf}
 use Rattle.frame.specs.Laws.{Carries}
 use Rattle.frame.proofs.Judging.{ways, None-holds, judged-passed, then-passed}
 use Rattle.frame.proofs.Rows.{Stand, stand-packed}
 use Rattle.frame.proofs.Words.{Bytes, word-split}
-use Rattle.frame.proofs.Fitting.{all-true}
+use Rattle.frame.proofs.Fitting.{all-true, within-is}
 
 same-is : (a b : ℕ) → isNot a b ≡ false → a ≡ b
 same-is a b h = eqb-true a b (not-false (eqb a b) h)
@@ -94,7 +94,7 @@ conn-carries bs f small passed next h =
       range = not-false (connFits (m .to) (field w1 24 4) (field w1 20 4) (field w1 0 8)) (t .0 .1 .1 .1 .0);
       padding = drop 8 bs;
       same = laid-at bs 0 (packed (mainRow CONN (m .to) 8)) small (omega arith) row0
-        ∙ ap (λ (rest : List ℕ). bigEndian (packed (mainRow CONN (m .to) 8)) ++ rest) (laid-at bs 4 (packed (connRow (field w1 24 4) (field w1 20 4) (field w1 0 8))) small (omega arith) row1);
+          ∙ ap (λ (rest : List ℕ). bigEndian (packed (mainRow CONN (m .to) 8)) ++ rest) (laid-at bs 4 (packed (connRow (field w1 24 4) (field w1 20 4) (field w1 0 8))) small (omega arith) row1);
     })
 
 one-of-two : (n a b : ℕ) → isOneOf n (a ∷ b ∷ []) ≡ true → eqb n a ≡ false → n ≡ b
@@ -157,10 +157,10 @@ module _ (bs : List ℕ) (small : Bytes bs) where
       let row : w ≡ packed (nackRow (field w 16 8) (field w 0 12)) = nack-row m w (word-below bs 8 small) (t .0) in
       subst (Carries bs) (t .1)
       (record {
-        range = all-true (headFits h ∷ countFits (field w 16 8) ∷ ltb (field w 0 12) 4096 ∷ []) (k .fits, (not-false (countFits (field w 16 8)) (t .0 .1 .1 .1 .1 .0), (lt-ltb (field w 0 12) 4096 (omega arith), tt)));
+        range = all-true (headFits h ∷ countFits (field w 16 8) ∷ within 0 4095 (field w 0 12) ∷ []) (k .fits, (not-false (countFits (field w 16 8)) (t .0 .1 .1 .1 .1 .0), (within-is 0 4095 (field w 0 12) (omega arith) (omega arith), tt)));
         padding = drop 12 bs;
         same = started k NACK 12 next size
-          ∙ ap (λ (rest : List ℕ). bigEndian (packed (mainRow ACK (h .to) 12)) ++ (bigEndian (packed (ackRow NACK h)) ++ rest)) (laid-at bs 8 (packed (nackRow (field w 16 8) (field w 0 12))) small (omega (arith, k .room)) row);
+            ∙ ap (λ (rest : List ℕ). bigEndian (packed (mainRow ACK (h .to) 12)) ++ (bigEndian (packed (ackRow NACK h)) ++ rest)) (laid-at bs 8 (packed (nackRow (field w 16 8) (field w 0 12))) small (omega (arith, k .room)) row);
       })
 
   frag-carries : Headed → (f : Fields) → field w1 28 4 ≡ FRAG → fragOf bs m h ≡ Ok f → Carries bs f
@@ -178,11 +178,11 @@ module _ (bs : List ℕ) (small : Bytes bs) where
       subst (Carries bs) (t .1)
       (record {
         range = all-true (headFits h ∷ fragFits more number ∷ lengthFits 1 more (length p) ∷ [])
-          (k .fits, (not-false (fragFits more number) (t .0 .1 .1 .1 .0), (ap (lengthFits 1 more) (sym long) ∙ not-false (lengthFits 1 more (m .size - 12)) (t .0 .1 .1 .1 .1 .0), tt)));
+            (k .fits, (not-false (fragFits more number) (t .0 .1 .1 .1 .0), (ap (lengthFits 1 more) (sym long) ∙ not-false (lengthFits 1 more (m .size - 12)) (t .0 .1 .1 .1 .1 .0), tt)));
         padding = drop (m .size) bs;
         same = started k FRAG (12 + length p) next (sym size)
-          ∙ ap front (laid-at bs 8 (packed (fragRow more number)) small (omega (arith, k .room)) row
-          ∙ ap (λ (rest : List ℕ). bigEndian (packed (fragRow more number)) ++ rest) (part-split bs 12 (m .size) twelve));
+            ∙ ap front (laid-at bs 8 (packed (fragRow more number)) small (omega (arith, k .room)) row
+            ∙ ap (λ (rest : List ℕ). bigEndian (packed (fragRow more number)) ++ rest) (part-split bs 12 (m .size) twelve));
       })
 
   udata-carries : Headed → (f : Fields) → field w1 28 4 ≡ UDATA → udataOf bs m h ≡ Ok f → Carries bs f
@@ -202,14 +202,14 @@ module _ (bs : List ℕ) (small : Bytes bs) where
       let front : List ℕ → List ℕ = λ rest. bigEndian (packed (mainRow ACK (h .to) (20 + length p))) ++ (bigEndian (packed (ackRow UDATA h)) ++ (bigEndian (packed (fragRow more number)) ++ rest)) in
       subst (Carries bs) (t .1)
       (record {
-        range = all-true (headFits h ∷ udataFits more number ∷ lengthFits 0 more (length p) ∷ ltb dst 65536 ∷ ltb src 65536 ∷ [])
-          (k .fits, (not-false (udataFits more number) (t .0 .1 .1 .1 .1 .0), (ap (lengthFits 0 more) (sym long) ∙ not-false (lengthFits 0 more (m .size - 20)) (t .0 .1 .1 .1 .1 .1 .0), (lt-ltb dst 65536 (omega arith), (lt-ltb src 65536 (omega arith), tt)))));
+        range = all-true (headFits h ∷ udataFits more number ∷ lengthFits 0 more (length p) ∷ within 0 65535 dst ∷ within 0 65535 src ∷ [])
+            (k .fits, (not-false (udataFits more number) (t .0 .1 .1 .1 .1 .0), (ap (lengthFits 0 more) (sym long) ∙ not-false (lengthFits 0 more (m .size - 20)) (t .0 .1 .1 .1 .1 .1 .0), (within-is 0 65535 dst (omega arith) (omega arith), (within-is 0 65535 src (omega arith) (omega arith), tt)))));
         padding = drop (m .size) bs;
         same = started k UDATA (20 + length p) next (sym size)
-          ∙ ap (λ (rest : List ℕ). bigEndian (packed (mainRow ACK (h .to) (20 + length p))) ++ (bigEndian (packed (ackRow UDATA h)) ++ rest)) (laid-at bs 8 (packed (fragRow more number)) small (omega (arith, k .room)) row)
-          ∙ ap front (laid-at bs 12 0 small (omega (arith, k .room)) (same-is (wordAt bs 12) 0 (t .0 .1 .1 .0))
-          ∙ ap (λ (rest : List ℕ). bigEndian 0 ++ rest) (laid-at bs 16 (packed (addressRow dst src)) small (omega (arith, k .room)) (address-row a (word-below bs 16 small))
-          ∙ ap (λ (rest : List ℕ). bigEndian (packed (addressRow dst src)) ++ rest) (part-split bs 20 (m .size) twenty)));
+            ∙ ap (λ (rest : List ℕ). bigEndian (packed (mainRow ACK (h .to) (20 + length p))) ++ (bigEndian (packed (ackRow UDATA h)) ++ rest)) (laid-at bs 8 (packed (fragRow more number)) small (omega (arith, k .room)) row)
+            ∙ ap front (laid-at bs 12 0 small (omega (arith, k .room)) (same-is (wordAt bs 12) 0 (t .0 .1 .1 .0))
+            ∙ ap (λ (rest : List ℕ). bigEndian 0 ++ rest) (laid-at bs 16 (packed (addressRow dst src)) small (omega (arith, k .room)) (address-row a (word-below bs 16 small))
+            ∙ ap (λ (rest : List ℕ). bigEndian (packed (addressRow dst src)) ++ rest) (part-split bs 20 (m .size) twenty)));
       })
 
   headed : None-holds (mainChecks (length bs) w0) → eqb (m .next) CONN ≡ false → None-holds (ackChecks m w1) → Headed
@@ -217,9 +217,8 @@ module _ (bs : List ℕ) (small : Bytes bs) where
       let ack-next : m .next ≡ ACK = one-of-two (m .next) CONN ACK (not-false (isOneOf (m .next) (CONN ∷ ACK ∷ [])) (passed .1 .1 .1 .1 .1 .0)) other in
       let named : 0 < m .to = nonzero (m .next) (m .to) ack-next (passed .1 .1 .1 .1 .1 .1 .0) in
       record {
-        fits = all-true (isNumber (h .to) ∷ ltb (h .r) 2 ∷ ltb (h .ackno) 4096 ∷ ltb (h .seqno) 4096 ∷ [])
-          (all-true (ltb 0 (h .to) ∷ ltb (h .to) 256 ∷ []) (lt-ltb 0 (h .to) named, (lt-ltb (h .to) 256 (omega arith), tt)),
-           (lt-ltb (h .r) 2 (omega arith), (lt-ltb (h .ackno) 4096 (omega arith), (lt-ltb (h .seqno) 4096 (omega arith), tt))));
+        fits = all-true (isNumber (h .to) ∷ within 0 1 (h .r) ∷ within 0 4095 (h .ackno) ∷ within 0 4095 (h .seqno) ∷ [])
+            (within-is 1 255 (h .to) named (omega arith), (within-is 0 1 (h .r) (omega arith) (omega arith), (within-is 0 4095 (h .ackno) (omega arith) (omega arith), (within-is 0 4095 (h .seqno) (omega arith) (omega arith), tt))));
         room = ltb-false (length bs) (m .size) (passed .1 .0);
         eight = ltb-false (m .size) 8 eight;
         main = main-row (length bs) w0 (word-below bs 0 small) passed ∙ ap (λ (x : ℕ). packed (mainRow x (m .to) (m .size))) ack-next;

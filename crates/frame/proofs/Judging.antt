@@ -24,9 +24,9 @@ judged-passes (c ∷ cs) x h = rw (h .0) (judged-passes cs x (h .1))
 pub judged-passed : {A E : Type 0} (cs : Checks E) (x y : A) → judged cs x ≡ Ok y → None-holds cs × (x ≡ y)
 judged-passed [] x y h = (tt, cc)
 judged-passed (c ∷ cs) x y h =
-    elim (c .0) as (λ b. cond b (Err (c .1)) (judged cs x) ≡ Ok y → ((b ≡ false) × None-holds cs) × (x ≡ y))
-    [ true ↦ λ k. let z : _≡_ {A = ℕ} 0 1 = cc in absurd (omega arith)
-    | false ↦ λ k. let t = judged-passed cs x y k in ((refl, t .0), t .1)
+    elim (c .0) as (λ b. cond b (Err (c .1)) (judged cs x) ≡ Ok y → ((b ≡ false) × None-holds cs) × (x ≡ y)) [
+      | true ↦ λ k. let z : _≡_ {A = ℕ} 0 1 = cc in absurd (omega arith)
+      | false ↦ λ k. let t = judged-passed cs x y k in ((refl, t .0), t .1)
     ] h
 
 -- What was gone on with, where all went well.

@@ -32,9 +32,10 @@ stand-below x (f ∷ fs) h =
     let n : ℕ = width fs in
     let low : packed fs < 2 ^ n = packed-below fs (h .1) in
     let same : (x * 2 ^ k + f .1) * 2 ^ n + packed fs ≡ x * 2 ^ (k + n) + (f .1 * 2 ^ n + packed fs) = simp (pow-add, add-mul, mul-assoc, add-assoc) in
-    subst (λ (w : ℕ). Stand w (f ∷ fs)) same
-    (ap (λ (q : ℕ). q % 2 ^ k) (shr-high (x * 2 ^ k + f .1) n (packed fs) low) ∙ mod-low x k (f .1) (h .0),
-     stand-below (x * 2 ^ k + f .1) fs (h .1))
+    subst (λ (w : ℕ). Stand w (f ∷ fs)) same (
+      ap (λ (q : ℕ). q % 2 ^ k) (shr-high (x * 2 ^ k + f .1) n (packed fs) low) ∙ mod-low x k (f .1) (h .0),
+      stand-below (x * 2 ^ k + f .1) fs (h .1),
+    )
 
 -- The fields that a row was made of stand in its word.
 pub packed-stand : (r : Row) → Fit r → Stand (packed r) r

@@ -9,3 +9,4 @@ pub mod Kinds
 pub mod Headers
 pub mod Writer
 pub mod Laws
+pub mod Lines

@@ -4,7 +4,7 @@ ghost use Rattle.frame.specs.Numbers.{causeNumber};
 ghost use Rattle.frame.specs.Faults.{at as atPlace, causeOf, placeOf, layerOf};
 ghost use Rattle.frame.specs.declared.fault.FrameFault.the-variants.{Header};
 
-#[derive(Clone, Copy, PartialEq, Eq, Debug)]
+#[derive(Clone, Copy)]
 pub enum Cause {
     /// Fewer bytes than four, or than the packet size says.
     Short,
@@ -42,20 +42,20 @@ impl Cause {
     }
 }
 
-#[derive(Clone, Copy, PartialEq, Eq, Debug)]
+#[derive(Clone, Copy)]
 pub enum Layer {
     Frame,
     Header,
 }
 
 /// A fault in a header behind MAIN.
-#[derive(Clone, Copy, PartialEq, Eq, Debug)]
+#[derive(Clone, Copy)]
 pub struct HeaderFault {
     pub cause: Cause,
     pub place: u8,
 }
 
-#[derive(Clone, Copy, PartialEq, Eq, Debug)]
+#[derive(Clone, Copy)]
 pub enum FrameFault {
     /// In MAIN, at byte 0.
     Main(Cause),

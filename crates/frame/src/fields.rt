@@ -3,19 +3,28 @@ ghost use mathlib.Core.Path.{_≡_};
 ghost use Rattle.frame.specs.Numbers.{typeNumber, typeOf};
 
 /// A connection number: 1 to 255, and 0 where there is none.
-#[derive(Clone, Copy, PartialEq, Eq, Debug)]
+#[derive(Clone, Copy)]
 pub struct ConnId(pub u8);
 
 /// A sequence number: 0 to 4,095.
-#[derive(Clone, Copy, PartialEq, Eq, Debug)]
+#[derive(Clone, Copy)]
 pub struct SeqNo(pub u16);
 
+impl SeqNo {
+    /// The largest: numbers are counted mod 4,096.
+    pub const MAX: u16 = 4095;
+}
+
 /// A window exponent w, 0 to 5: the window is 2^w pieces.
-#[derive(Clone, Copy, PartialEq, Eq, Debug)]
+#[derive(Clone, Copy)]
 pub struct WindowExponent(pub u8);
 
+impl WindowExponent {
+    pub const MAX: u8 = 5;
+}
+
 /// What a CONN frame does.
-#[derive(Clone, Copy, PartialEq, Eq, Debug)]
+#[derive(Clone, Copy)]
 pub enum ConnType {
     Connect,
     ConnectAck,
@@ -51,7 +60,7 @@ impl ConnType {
 }
 
 /// Where a piece stands in its message.
-#[derive(Clone, Copy, PartialEq, Eq, Debug)]
+#[derive(Clone, Copy)]
 pub struct Fragment {
     /// M: more pieces follow.
     pub more: bool,
@@ -59,8 +68,16 @@ pub struct Fragment {
     pub number: u16,
 }
 
+impl Fragment {
+    /// The number of a message that is one piece.
+    pub const WHOLE: u16 = 32767;
+
+    /// The highest number of a piece: sixteen make the longest message.
+    pub const LAST: u16 = 15;
+}
+
 /// The fields that ACK, NACK, UDATA and FRAG frames headFields with.
-#[derive(Clone, Copy, PartialEq, Eq, Debug)]
+#[derive(Clone, Copy)]
 pub struct Head {
     /// Conn ID: the receiver's connection number.
     pub to: ConnId,

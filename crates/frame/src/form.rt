@@ -11,6 +11,9 @@ use crate::fields::Head;
 use crate::fields::SeqNo;
 use crate::fields::WindowExponent;
 
+/// A full piece of a message, in bytes.
+pub const PIECE: usize = 256;
+
 /// A frame, with the payload as a part of the bytes it was read from.
 #[derive(Clone, Copy)]
 pub enum Frame<'a> {
@@ -48,7 +51,7 @@ pub enum Frame<'a> {
 }
 
 /// What a frame is, as the C caller is told.
-#[derive(Clone, Copy, PartialEq, Eq, Debug)]
+#[derive(Clone, Copy)]
 pub enum Kind {
     Connect,
     ConnectAck,

@@ -4,14 +4,14 @@ use crate::fields::Head;
 
 /// The header that follows MAIN, with its number in Next.
 #[derive(Clone, Copy)]
-pub enum AfterMain {
+pub(crate) enum AfterMain {
     Conn = 1,
     Ack = 4,
 }
 
 /// The header that follows ACK, if any, with its number in Next.
 #[derive(Clone, Copy)]
-pub enum AfterAck {
+pub(crate) enum AfterAck {
     Udata = 2,
     Frag = 3,
     Nack = 5,
@@ -19,14 +19,14 @@ pub enum AfterAck {
 }
 
 #[derive(Clone, Copy)]
-pub struct MainHeader {
+pub(crate) struct MainHeader {
     pub next: AfterMain,
     pub to: ConnId,
     pub size: usize,
 }
 
 #[derive(Clone, Copy)]
-pub struct AckHeader {
+pub(crate) struct AckHeader {
     pub next: AfterAck,
     pub head: Head,
 }

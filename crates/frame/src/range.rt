@@ -10,14 +10,20 @@ use crate::fields::Head;
 use crate::fields::SeqNo;
 use crate::fields::WindowExponent;
 use crate::form::Frame;
+use crate::form::PIECE;
 
 /// The fields of a CONN frame fit its type.
-pub fn conn_fits(to: ConnId, kind: ConnType, window: WindowExponent, published: ConnId) -> bool
+pub(crate) fn conn_fits(
+    to: ConnId,
+    kind: ConnType,
+    window: WindowExponent,
+    published: ConnId,
+) -> bool
     ensures { λ r. ⌜ r ≡ connFits (to .0) (typeNumber kind) (window .0) (published .0) ⌝ }
 {
     match kind {
-        ConnType::Connect => to.0 == 0 && window.0 < 6 && published.0 > 0,
-        ConnType::ConnectAck => to.0 > 0 && window.0 < 6 && published.0 > 0,
+        ConnType::Connect => to.0 == 0 && window.0 <= WindowExponent::MAX && published.0 > 0,
+        ConnType::ConnectAck => to.0 > 0 && window.0 <= WindowExponent::MAX && published.0 > 0,
         ConnType::Ack => to.0 > 0 && window.0 == 0 && published.0 > 0,
         ConnType::Reset => to.0 > 0 && window.0 == 0 && published.0 == 0,
     }
@@ -26,51 +32,51 @@ pub fn conn_fits(to: ConnId, kind: ConnType, window: WindowExponent, published: 
 fn head_fits(head: Head) -> bool
     ensures { λ r. ⌜ r ≡ headFits (headFields head) ⌝ }
 {
-    head.to.0 > 0 && head.ackno.0 < 4096 && head.seqno.0 < 4096
+    head.to.0 > 0 && head.ackno.0 <= SeqNo::MAX && head.seqno.0 <= SeqNo::MAX
 }
 
 /// A gap report names 1 to 31 pieces.
-pub fn count_fits(count: u8) -> bool
+pub(crate) fn count_fits(count: u8) -> bool
     ensures { λ r. ⌜ r ≡ countFits count ⌝ }
 {
-    count > 0 && count < 32
+    1 <= count && count <= 31
 }
 
 /// UDATA carries a whole message or the first of several pieces.
-pub fn udata_fits(fragment: Fragment) -> bool
+pub(crate) fn udata_fits(fragment: Fragment) -> bool
     ensures { λ r. ⌜ r ≡ udataFits (bit (fragment .more)) (fragment .number) ⌝ }
 {
     if fragment.more {
         fragment.number == 0
     } else {
-        fragment.number == 32767
+        fragment.number == Fragment::WHOLE
     }
 }
 
 /// FRAG carries a later piece, the last one up to number 15.
-pub fn frag_fits(fragment: Fragment) -> bool
+pub(crate) fn frag_fits(fragment: Fragment) -> bool
     ensures { λ r. ⌜ r ≡ fragFits (bit (fragment .more)) (fragment .number) ⌝ }
 {
     if fragment.more {
-        fragment.number > 0 && fragment.number < 15
+        1 <= fragment.number && fragment.number < Fragment::LAST
     } else {
-        fragment.number > 0 && fragment.number < 16
+        1 <= fragment.number && fragment.number <= Fragment::LAST
     }
 }
 
 /// A piece before the last is full; the last has `least` to 256 bytes.
-pub fn length_fits(least: usize, more: bool, length: usize) -> bool
+pub(crate) fn length_fits(least: usize, more: bool, length: usize) -> bool
     ensures { λ r. ⌜ r ≡ lengthFits least (bit more) length ⌝ }
 {
     if more {
-        length == 256
+        length == PIECE
     } else {
-        length >= least && length < 257
+        least <= length && length <= PIECE
     }
 }
 
 /// Every field is in its range.
-pub fn in_range(frame: Frame) -> bool
+pub(crate) fn in_range(frame: Frame) -> bool
     ensures { λ r. ⌜ r ≡ inRange (fields (frame .entry)) ⌝ }
 {
     match frame {
@@ -81,7 +87,9 @@ pub fn in_range(frame: Frame) -> bool
             published,
         } => conn_fits(to, kind, window, published),
         Frame::Ack { head } => head_fits(head),
-        Frame::Nack { head, count, from } => head_fits(head) && count_fits(count) && from.0 < 4096,
+        Frame::Nack { head, count, from } => head_fits(head)
+            && count_fits(count)
+            && from.0 <= SeqNo::MAX,
         Frame::Udata {
             head,
             fragment,

@@ -24,7 +24,7 @@ use crate::header::AfterMain;
 use crate::range::in_range;
 
 /// Why a frame is not written.
-#[derive(Clone, Copy, PartialEq, Eq, Debug)]
+#[derive(Clone, Copy)]
 pub enum Refusal {
     /// A field lies outside its range.
     Range,
@@ -50,7 +50,7 @@ fn conn_word(kind: ConnType, window: WindowExponent, published: ConnId) -> u32
 }
 
 fn ack_word(next: AfterAck, head: Head) -> u32
-    requires { ⌜ head .ackno .0 < 4096 ⌝ ∗ ⌜ head .seqno .0 < 4096 ⌝ }
+    requires { ⌜ head .ackno .0 ≤ 4095 ⌝ ∗ ⌜ head .seqno .0 ≤ 4095 ⌝ }
     ensures { λ r. ⌜ r ≡ packed (ackRow (afterAck next) (headFields head)) ⌝ }
 {
     ((next as u32) << 28)
@@ -60,7 +60,7 @@ fn ack_word(next: AfterAck, head: Head) -> u32
 }
 
 fn nack_word(count: u8, from: SeqNo) -> u32
-    requires { ⌜ from .0 < 4096 ⌝ }
+    requires { ⌜ from .0 ≤ 4095 ⌝ }
     ensures { λ r. ⌜ r ≡ packed (nackRow count (from .0)) ⌝ }
 {
     (15 << 28) + (u32::from(count) << 16) + u32::from(from.0)

@@ -13,4 +13,4 @@ pub ack-word-requires : need.ack-word-requires
 ack-word-requires c κs =
     let a = c .args in
     let h = frag-fits (headFields (a .head)) (bit (a .fragment .more)) (a .fragment .number) (a .payload .now) (c .pre .range) in
-    (h .head .ackno, h .head .seqno)
+    (h .head .ackno .most, h .head .seqno .most)
