@@ -35,7 +35,7 @@ impl Cause {
     }
 
     /// The fault of a header at a place.
-    pub fn at(self, place: u8) -> HeaderFault
+    pub(crate) fn at(self, place: u8) -> HeaderFault
         ensures { λ r. ⌜ r ≡ atPlace place self ⌝ }
     {
         HeaderFault { cause: self, place }
