@@ -9,7 +9,7 @@ use lib.Dec.{ltb}
 use lib.ListN.{length, take, drop}
 use Rattle.std.specs.declared.result.Result.{Result}
 use Rattle.std.specs.declared.result.Result.the-variants.{Ok, Err}
-use Rattle.std.proofs.shelf.Lists.{take-at}
+use Rattle.std.proofs.shelf.Lists.{take-at, append-nil}
 use Rattle.std.proofs.shelf.Ways.{tells}
 use Rattle.frame.specs.declared.writer.Refusal.{Refusal}
 use Rattle.frame.specs.declared.writer.Refusal.the-variants.{Range, Room}
@@ -19,7 +19,12 @@ use Rattle.frame.specs.Layout.{size, bytes}
 use Rattle.frame.specs.Ranges.{inRange}
 use Rattle.frame.specs.Writer.{written, placed}
 use Rattle.frame.proofs.Fitting.{frag-fits, udata-fits}
-use Rattle.bench.specs.Answer.{writeText}
+use Rattle.frame.specs.Reader.{frameOf}
+use Rattle.frame.specs.declared.fault.FrameFault.{FrameFault}
+use Rattle.frame.proofs.ReadBack.{reads-back}
+use Rattle.scenario.specs.Lines.{read, saidBy}
+use Rattle.std.specs.declared.option.Option.the-variants.{Some}
+use Rattle.bench.specs.Answer.{readText, writeText, printed, Reads-back}
 use Rattle.scenario.specs.Hex.{hexed}
 
 -- No frame is longer than 276 bytes.
@@ -75,3 +80,12 @@ written-text f bs text fits e h =
 
 pub none-text : (f : Fields) → inRange f ≡ false → codes "write -> none" ≡ writeText f
 none-text f out = ap (λ (b : Bool). codes "write -> " ++ cond b (hexed (bytes f)) (codes "none")) (sym out)
+
+-- Bytes that say the frame of fields in range print the form of these fields.
+pub again : (f : Fields) (bs text : List ℕ) → bs ≡ bytes f → saidBy (codes "read " ++ text) ≡ Ok (read bs) → Reads-back f (codes "write -> " ++ text)
+again f bs text e h range n =
+    let frame : frameOf bs ≡ Ok f = ap frameOf (e ∙ sym (append-nil (bytes f))) ∙ reads-back f [] range in
+    ap (printed n) h ∙ ap (λ (r : Result Fields FrameFault). Some (readText r)) frame
+
+pub none-again : (f : Fields) (text : List ℕ) → inRange f ≡ false → Reads-back f text
+none-again f text out range = absurd (let z : _≡_ {A = ℕ} 0 1 = cc in omega arith)

@@ -1,8 +1,10 @@
 -- What the bench prints for a line.
 use Prim.Native.Nat.{ℕ}
-use mathlib.Core.Bool.{cond}
+use mathlib.Core.Path.{_≡_}
+use mathlib.Core.Bool.{true, cond}
 use mathlib.Core.List.{List, [], _∷_, _++_}
 use lib.Chars.{codes}
+use lib.ListN.{drop}
 use Rattle.std.specs.Written.{decimal}
 use Rattle.std.specs.declared.option.Option.{Option}
 use Rattle.std.specs.declared.option.Option.the-variants.{Some, None}
@@ -20,7 +22,7 @@ use Rattle.frame.specs.declared.fault.Layer.{Layer}
 use Rattle.frame.specs.declared.fault.Layer.the-variants.{Frame, Header}
 use Rattle.scenario.specs.Form.{line, formText}
 use Rattle.scenario.specs.Hex.{hexed}
-use Rattle.scenario.specs.Lines.{Said, nothing, read, cread, write}
+use Rattle.scenario.specs.Lines.{Said, nothing, read, cread, write, saidBy}
 
 abbrev pub layerText : Layer → List ℕ
 layerText Frame = codes "frame"
@@ -58,3 +60,7 @@ wrongLine n wrong = line (codes "line " ∷ decimal n ∷ codes ": " ∷ wrong �
 abbrev pub printed : ℕ → Result Said (List ℕ) → Option (List ℕ)
 printed n (Ok s) = answerOf s
 printed n (Err wrong) = Some (wrongLine n wrong)
+
+-- What was printed for fields in range, typed behind `read`, prints the form of these fields.
+abbrev pub Reads-back : Fields → (text : List ℕ) → Type 0
+Reads-back f text = inRange f ≡ true → (n : ℕ) → printed n (saidBy (codes "read " ++ drop 9 text)) ≡ Some (codes "read -> " ++ formText f)

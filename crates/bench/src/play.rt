@@ -9,7 +9,7 @@ ghost use Rattle.frame.specs.Fields.{fields, answer};
 ghost use Rattle.frame.specs.Reader.{frameOf};
 ghost use Rattle.scenario.specs.Draft.{fieldsOf};
 ghost use Rattle.scenario.specs.Lines.{said, saidBy};
-ghost use Rattle.bench.specs.Answer.{faultText, layerText, readText, creadText, writeText, answerOf, wrongLine, printed};
+ghost use Rattle.bench.specs.Answer.{faultText, layerText, readText, creadText, writeText, answerOf, wrongLine, printed, Reads-back};
 ghost use Rattle.scenario.specs.Wrong.{wrongText};
 use frame::Frame;
 use frame::FrameFault;
@@ -79,7 +79,8 @@ pub fn cread_line(heap: Global, bytes: &[u8]) -> Result<String, AllocError>
 // The frame's bytes, by way of a place that holds every frame.
 fn frame_line(heap: Global, frame: Frame, place: &mut [u8]) -> Result<String, AllocError>
     requires { ⌜ 276 ≤ length (now place) ⌝ }
-    ensures { λ r. ⌜ made r (λ s. string-bytes s ≡ writeText (fields (frame .entry))) ⌝ }
+    ensures value { λ r. ⌜ made r (λ s. string-bytes s ≡ writeText (fields (frame .entry))) ⌝ }
+    ensures reads_back { λ r. ⌜ made r (λ s. Reads-back (fields (frame .entry)) (string-bytes s)) ⌝ }
 {
     match frame::write(frame, place) {
         Ok(length) => {
@@ -92,7 +93,8 @@ fn frame_line(heap: Global, frame: Frame, place: &mut [u8]) -> Result<String, Al
 
 /// The bytes of the frame that a form asks for.
 pub fn write_line(heap: Global, draft: &Draft) -> Result<String, AllocError>
-    ensures { λ r. ⌜ made r (λ s. string-bytes s ≡ writeText (fieldsOf (now (draft .entry)))) ⌝ }
+    ensures value { λ r. ⌜ made r (λ s. string-bytes s ≡ writeText (fieldsOf (now (draft .entry)))) ⌝ }
+    ensures reads_back { λ r. ⌜ made r (λ s. Reads-back (fieldsOf (now (draft .entry))) (string-bytes s)) ⌝ }
 {
     let Some(frame) = draft.frame() else {
         return String::from_str(heap, "write -> none");

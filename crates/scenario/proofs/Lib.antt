@@ -3,3 +3,4 @@ pub mod Numbering
 pub mod Testing
 pub mod Cutting
 pub mod Naming
+pub mod Typing

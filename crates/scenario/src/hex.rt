@@ -7,6 +7,9 @@ ghost use Rattle.std.specs.Of.Vec.{vec-items};
 ghost use Rattle.std.specs.Options.{mapped};
 ghost use Rattle.std.specs.Vec.{made};
 ghost use Rattle.std.specs.declared.option.Option.the-variants.{Some};
+ghost use lib.Chars.{codes};
+ghost use Rattle.std.specs.declared.result.Result.the-variants.{Ok};
+ghost use Rattle.scenario.specs.Lines.{read, saidBy};
 ghost use Rattle.scenario.specs.Hex.{digitOf, pairOf, hexed, nibbleOf, byteOf, paired, unhexed};
 use std::alloc::AllocError;
 use std::alloc::Global;
@@ -30,10 +33,9 @@ fn push_pair(text: &mut String, byte: u8) -> Result<(), AllocError>
     Ok(())
 }
 
-/// The text of bytes. Read back, it gives the same bytes.
-pub fn to_hex(heap: Global, bytes: &[u8]) -> Result<String, AllocError>
-    ensures value { λ r. ⌜ made r (λ s. string-bytes s ≡ hexed (now (bytes .entry))) ⌝ }
-    ensures reads_back { λ r. ⌜ made r (λ s. unhexed (string-bytes s) ≡ Some (now (bytes .entry))) ⌝ }
+// Pair after pair.
+fn text_of(heap: Global, bytes: &[u8]) -> Result<String, AllocError>
+    ensures { λ r. ⌜ made r (λ s. string-bytes s ≡ hexed (now (bytes .entry))) ⌝ }
 {
     if bytes.is_empty() {
         return String::from_str(heap, "-");
@@ -43,6 +45,15 @@ pub fn to_hex(heap: Global, bytes: &[u8]) -> Result<String, AllocError>
         push_pair(&mut text, *byte)?;
     }
     Ok(text)
+}
+
+/// The text of bytes. Read back, it gives the same bytes; so does a line that has it behind `read`.
+pub fn to_hex(heap: Global, bytes: &[u8]) -> Result<String, AllocError>
+    ensures value { λ r. ⌜ made r (λ s. string-bytes s ≡ hexed (now (bytes .entry))) ⌝ }
+    ensures reads_back { λ r. ⌜ made r (λ s. unhexed (string-bytes s) ≡ Some (now (bytes .entry))) ⌝ }
+    ensures typed { λ r. ⌜ made r (λ s. saidBy (codes "read " ++ string-bytes s) ≡ Ok (read (now (bytes .entry)))) ⌝ }
+{
+    text_of(heap, bytes)
 }
 
 // The value of a digit.

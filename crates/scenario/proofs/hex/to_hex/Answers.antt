@@ -1,38 +1,25 @@
-use mathlib.Core.Path.{_≡_, sym, ap, subst, _∙_}
-use mathlib.Core.List.{List, [], _∷_, _++_}
+use mathlib.Core.Path.{_≡_, ap, _∙_}
+use mathlib.Core.List.{List, _++_}
 use Prim.Native.Nat.{ℕ, _<_}
 use native.Mathlib.Omega.{arith}
-use lib.ListN.{length, getD, take}
-use borrow.Author.Tests.{true-eqb, false-eqb}
-use Rattle.std.proofs.shelf.Results.{made-at-ok, made-weaker}
-use Rattle.std.specs.Joined.{joined}
+use lib.Chars.{codes}
+use lib.ListN.{getD}
+use Rattle.std.proofs.shelf.Results.{made-weaker}
 use Rattle.std.specs.Of.String.{string-bytes}
 use Rattle.std.specs.declared.option.Option.the-variants.{Some}
-use Rattle.scenario.specs.Hex.{pairOf, hexed, unhexed}
-use Rattle.scenario.proofs.Hexing.{pairs-more, pairs-all, hexed-none, unhexed-hexed}
+use Rattle.std.specs.declared.result.Result.the-variants.{Ok}
+use Rattle.scenario.specs.Hex.{hexed, unhexed}
+use Rattle.scenario.specs.Lines.{read, saidBy}
+use Rattle.scenario.proofs.Hexing.{unhexed-hexed}
+use Rattle.scenario.proofs.Typing.{read-typed}
 use Rattle.scenario.proofs.hex.to_hex.Needs as need
-
-pub returns-then-is-empty : need.returns-then-is-empty
-returns-then-is-empty c =
-    let bs : List ℕ = c .args .bytes .now in
-    let none : length bs ≡ 0 = true-eqb (length bs) 0 (c .if-is-empty .ensures tt) in
-    record {
-      value = made-weaker (c .from-str .result) (λ s. string-bytes s ≡ 45 ∷ []) (λ s. string-bytes s ≡ hexed bs) (λ s h. h ∙ hexed-none bs none) (c .from-str .ensures .made);
-      reads-back = made-weaker (c .from-str .result) (λ s. string-bytes s ≡ 45 ∷ []) (λ s. unhexed (string-bytes s) ≡ Some bs) (λ s h. ap unhexed (h ∙ hexed-none bs none) ∙ unhexed-hexed bs (λ i. omega (arith, c .typed .bytes i))) (c .from-str .ensures .made);
-    }
-
-pub loop-byte-again : need.loop-byte-again
-loop-byte-again c =
-    let bs : List ℕ = c .args .bytes .now in
-    let i : ℕ = c .loop-byte .byte-index in
-    let pushed = made-at-ok (λ _. string-bytes (c .push-pair .last .text) ≡ string-bytes (c .loop-byte .text) ++ pairOf (getD bs i 0)) (c .in-Continue-push-pair .was tt) (c .push-pair .ensures) in
-    pushed ∙ ap (λ (l : List ℕ). l ++ pairOf (getD bs i 0)) (c .loop-byte .inv) ∙ sym (pairs-more bs i (omega arith))
 
 pub returns : need.returns
 returns c =
     let bs : List ℕ = c .args .bytes .now in
-    let some : 0 < length bs = omega (arith, false-eqb (length bs) 0 (c .if-is-empty .ensures tt)) in
-    let all : c .loop-byte .byte-index ≡ length bs = omega arith in
-    let text : string-bytes (c .loop-byte .text) ≡ hexed bs =
-    c .loop-byte .inv ∙ ap (λ (n : ℕ). joined pairOf (take n bs)) all ∙ pairs-all bs some in
-    record { value = text; reads-back = ap unhexed text ∙ unhexed-hexed bs (λ i. omega (arith, c .typed .bytes i)) }
+    let small : (i : ℕ) → getD bs i 0 < 256 = λ i. omega (arith, c .typed .bytes i) in
+    record {
+      value = c .text-of .ensures;
+      reads-back = made-weaker (c .text-of .result) (λ s. string-bytes s ≡ hexed bs) (λ s. unhexed (string-bytes s) ≡ Some bs) (λ s h. ap unhexed h ∙ unhexed-hexed bs small) (c .text-of .ensures);
+      typed = made-weaker (c .text-of .result) (λ s. string-bytes s ≡ hexed bs) (λ s. saidBy (codes "read " ++ string-bytes s) ≡ Ok (read bs)) (λ s h. ap (λ (t : List ℕ). saidBy (codes "read " ++ t)) h ∙ read-typed bs small) (c .text-of .ensures);
+    }

@@ -1,9 +1,16 @@
-use borrow.Author.Needs.{needs}
-use Rattle.std.proofs.shelf.Equals.{sameBytes-decides}
+use mathlib.Core.Path.{_≡_, refl}
+use mathlib.Core.Bool.{true, false}
+use Prim.Native.Nat.{ℕ}
+use native.Mathlib.Omega.{arith}
+use Rattle.scenario.specs.Words.{restOf}
+use Rattle.scenario.proofs.Naming.{named, misnamed}
 use Rattle.scenario.proofs.words.Words.name.Needs as need
 
 pub returns-then-eq : need.returns-then-eq
-returns-then-eq c = search (needs, sameBytes-decides)
+returns-then-eq c =
+    named (c .args .name .now) (c .in-Continue-found .found .now) (restOf (c .word .last .self)) (restOf (c .args .self .now)) (c .in-Continue-found .ensures tt) (c .eq .ensures .0 (c .if-eq .taken))
 
 pub returns-else-eq : need.returns-else-eq
-returns-else-eq c = search (needs, sameBytes-decides)
+returns-else-eq c =
+    misnamed (c .args .name .now) (c .in-Continue-found .found .now) (restOf (c .word .last .self)) (restOf (c .args .self .now)) (c .in-Continue-found .ensures tt)
+    (λ same. let yes′ : c .eq .result ≡ true = c .eq .ensures .1 same in let no′ : c .eq .result ≡ false = c .if-eq .left in let z : _≡_ {A = ℕ} 0 1 = cc in omega arith)
