@@ -83,15 +83,10 @@ int main(void) {
         }
     }
     uint32_t none = linx_frame_read(NULL, 0);
-    if (none != FAULT(LINX_SHORT, 0)) {
+    if (!linx_is_fault(none) || linx_cause_of(none) != LINX_SHORT || linx_place_of(none) != 0) {
         fprintf(stderr, "frames: NULL: answered %u\n", none);
         wrong++;
     }
-    uint32_t sample = linx_frame_read(NULL, 0);
-    if (!linx_is_fault(sample) || linx_cause_of(sample) != LINX_SHORT || linx_place_of(sample) != 0) {
-        fprintf(stderr, "frames: an answer comes apart wrongly\n");
-        wrong++;
-    }
-    if (wrong == 0) printf("c/frames: %zu answers as expected\n", count + 2);
+    if (wrong == 0) printf("c/frames: %zu answers as expected\n", count + 1);
     return wrong == 0 ? 0 : 1;
 }

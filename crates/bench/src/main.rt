@@ -2,13 +2,13 @@
 mod play;
 
 use play::Player;
-use std::io;
+use std::error::AnyError;
 use std::io::BufRead;
 use std::io::BufReader;
 use std::io::BufWriter;
 use std::io::Write;
 
-fn main(rt: LibcRuntime) -> io::Result<()> {
+fn run(rt: &LibcRuntime) -> Result<(), AnyError> {
     let heap = rt.alloc();
     let mut out = BufWriter::new(rt.stdout());
     let mut player = Player::new();
@@ -19,5 +19,10 @@ fn main(rt: LibcRuntime) -> io::Result<()> {
             out.write_all(b"\n")?;
         }
     }
-    out.flush()
+    out.flush()?;
+    Ok(())
+}
+
+fn main(rt: LibcRuntime) -> Result<(), AnyError> {
+    rt.report(run(&rt))
 }

@@ -61,19 +61,19 @@ fn read_text(heap: Global, read: Result<Frame, FrameFault>) -> Result<String, Al
     }
 }
 
-/// What reading bytes as a frame answers.
-pub fn read_line(heap: Global, bytes: &[u8]) -> Result<String, AllocError>
+// What reading bytes as a frame answers.
+fn read_line(heap: Global, bytes: &[u8]) -> Result<String, AllocError>
     ensures { λ r. ⌜ made r (λ s. string-bytes s ≡ readText (frameOf (now (bytes .entry)))) ⌝ }
 {
     read_text(heap, frame::read(bytes))
 }
 
-/// What a caller from C is told of the same bytes.
-pub fn cread_line(heap: Global, bytes: &[u8]) -> Result<String, AllocError>
+// What a caller from C is told of the same bytes.
+fn cread_line(heap: Global, bytes: &[u8]) -> Result<String, AllocError>
     ensures { λ r. ⌜ made r (λ s. string-bytes s ≡ creadText (now (bytes .entry))) ⌝ }
 {
-    let kind = frame::linx_frame_read(bytes);
-    format!(heap, "cread -> {kind}")
+    let code = frame::linx_frame_read(bytes);
+    format!(heap, "cread -> {code}")
 }
 
 // The frame's bytes, by way of a place that holds every frame.
@@ -91,8 +91,8 @@ fn frame_line(heap: Global, frame: Frame, place: &mut [u8]) -> Result<String, Al
     }
 }
 
-/// The bytes of the frame that a form asks for.
-pub fn write_line(heap: Global, draft: &Draft) -> Result<String, AllocError>
+// The bytes of the frame that a form asks for.
+fn write_line(heap: Global, draft: &Draft) -> Result<String, AllocError>
     ensures value { λ r. ⌜ made r (λ s. string-bytes s ≡ writeText (fieldsOf (now (draft .entry)))) ⌝ }
     ensures reads_back { λ r. ⌜ made r (λ s. Reads-back (fieldsOf (now (draft .entry))) (string-bytes s)) ⌝ }
 {

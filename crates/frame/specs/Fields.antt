@@ -9,7 +9,7 @@ use Rattle.frame.specs.declared.form.Frame.{Frame}
 use Rattle.frame.specs.declared.form.Frame.the-variants.{Conn, Ack, Nack, Udata, Frag}
 use Rattle.frame.specs.Numbers.{typeNumber}
 
--- The fields that ACK, NACK, UDATA and FRAG frames headFields with.
+-- The fields that ACK, NACK, UDATA and FRAG frames begin with.
 pub record HeadFields : Type 0 where
   pub to : ℕ
   pub r : ℕ

@@ -4,6 +4,7 @@ ghost use Rattle.frame.specs.Numbers.{causeNumber};
 ghost use Rattle.frame.specs.Faults.{at as atPlace, causeOf, placeOf, layerOf};
 ghost use Rattle.frame.specs.declared.fault.FrameFault.the-variants.{Header};
 
+/// What is wrong.
 #[derive(Clone, Copy)]
 pub enum Cause {
     /// Fewer bytes than four, or than the packet size says.
@@ -21,6 +22,7 @@ pub enum Cause {
 }
 
 impl Cause {
+    /// Its number, 20 to 25.
     pub fn number(self) -> u8
         ensures { λ r. ⌜ r ≡ causeNumber self ⌝ }
     {
@@ -42,9 +44,12 @@ impl Cause {
     }
 }
 
+/// Who noticed.
 #[derive(Clone, Copy)]
 pub enum Layer {
+    /// MAIN, which speaks of the whole frame.
     Frame,
+    /// A later header.
     Header,
 }
 
@@ -52,9 +57,11 @@ pub enum Layer {
 #[derive(Clone, Copy)]
 pub struct HeaderFault {
     pub cause: Cause,
+    /// The byte at which the header begins.
     pub place: u8,
 }
 
+/// Why bytes are no frame.
 #[derive(Clone, Copy)]
 pub enum FrameFault {
     /// In MAIN, at byte 0.

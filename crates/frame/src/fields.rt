@@ -26,9 +26,13 @@ impl WindowExponent {
 /// What a CONN frame does.
 #[derive(Clone, Copy)]
 pub enum ConnType {
+    /// Asks for a connection and publishes the sender's number.
     Connect,
+    /// Agrees, and publishes the sender's number in turn.
     ConnectAck,
+    /// Confirms that the agreement arrived.
     Ack,
+    /// Ends the connection.
     Reset,
 }
 
@@ -76,7 +80,7 @@ impl Fragment {
     pub const LAST: u16 = 15;
 }
 
-/// The fields that ACK, NACK, UDATA and FRAG frames headFields with.
+/// The fields that ACK, NACK, UDATA and FRAG frames begin with.
 #[derive(Clone, Copy)]
 pub struct Head {
     /// Conn ID: the receiver's connection number.

@@ -50,7 +50,7 @@ pub enum Frame<'a> {
     },
 }
 
-/// What a frame is, as the C caller is told.
+/// What a frame is: the type of a CONN frame, else its last header.
 #[derive(Clone, Copy)]
 pub enum Kind {
     Connect,
@@ -64,6 +64,7 @@ pub enum Kind {
 }
 
 impl Kind {
+    /// The number that a caller from C is told.
     pub fn number(self) -> u8
         ensures { λ r. ⌜ r ≡ kindNumber self ⌝ }
     {

@@ -2,6 +2,12 @@
 use crate::fields::ConnId;
 use crate::fields::Head;
 
+/// The protocol's version.
+pub(crate) const VERSION: u32 = 3;
+
+/// Next in a header that is always the last.
+pub(crate) const LAST: u32 = 15;
+
 /// The header that follows MAIN, with its number in Next.
 #[derive(Clone, Copy)]
 pub(crate) enum AfterMain {
@@ -18,13 +24,17 @@ pub(crate) enum AfterAck {
     Last = 15,
 }
 
+/// MAIN, once it has passed its checks.
 #[derive(Clone, Copy)]
 pub(crate) struct MainHeader {
     pub next: AfterMain,
+    /// Conn ID
     pub to: ConnId,
+    /// Packet size, at most the bytes at hand
     pub size: usize,
 }
 
+/// ACK, once it has passed its checks, with the receiver from MAIN.
 #[derive(Clone, Copy)]
 pub(crate) struct AckHeader {
     pub next: AfterAck,

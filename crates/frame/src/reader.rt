@@ -21,7 +21,9 @@ use crate::form::Frame;
 use crate::header::AckHeader;
 use crate::header::AfterAck;
 use crate::header::AfterMain;
+use crate::header::LAST;
 use crate::header::MainHeader;
+use crate::header::VERSION;
 use crate::range::conn_fits;
 use crate::range::count_fits;
 use crate::range::frag_fits;
@@ -56,7 +58,7 @@ fn read_main(bytes: &[u8]) -> Result<MainHeader, FrameFault>
     if bytes.len() < size {
         return Err(FrameFault::Main(Cause::Short));
     }
-    if field(w, 25, 3) != 3 {
+    if field(w, 25, 3) != VERSION {
         return Err(FrameFault::Main(Cause::Version));
     }
     if field(w, 24, 1) != 0 || field(w, 15, 1) != 0 {
@@ -114,7 +116,7 @@ fn read_conn<'a>(bytes: &'a [u8], main: MainHeader) -> Result<Frame<'a>, HeaderF
     if field(w, 8, 12) != 0 {
         return Err(Cause::Reserved.at(4));
     }
-    if field(w, 28, 4) != 15 {
+    if field(w, 28, 4) != LAST {
         return Err(Cause::Next.at(4));
     }
     let to = main.to;
@@ -157,7 +159,7 @@ fn read_nack<'a>(bytes: &'a [u8], main: MainHeader, head: Head) -> Result<Frame<
     if field(w, 24, 4) != 0 || field(w, 12, 4) != 0 {
         return Err(Cause::Reserved.at(8));
     }
-    if field(w, 28, 4) != 15 {
+    if field(w, 28, 4) != LAST {
         return Err(Cause::Next.at(8));
     }
     let count = field(w, 16, 8) as u8;
@@ -182,7 +184,7 @@ fn read_udata<'a>(bytes: &'a [u8], main: MainHeader, head: Head) -> Result<Frame
     if field(w, 16, 12) != 0 || word(bytes, 12) != 0 {
         return Err(Cause::Reserved.at(8));
     }
-    if field(w, 28, 4) != 15 {
+    if field(w, 28, 4) != LAST {
         return Err(Cause::Next.at(8));
     }
     let fragment = read_fragment(w);
@@ -217,7 +219,7 @@ fn read_frag<'a>(bytes: &'a [u8], main: MainHeader, head: Head) -> Result<Frame<
     if field(w, 16, 12) != 0 {
         return Err(Cause::Reserved.at(8));
     }
-    if field(w, 28, 4) != 15 {
+    if field(w, 28, 4) != LAST {
         return Err(Cause::Next.at(8));
     }
     let fragment = read_fragment(w);

@@ -21,6 +21,8 @@ use crate::fields::WindowExponent;
 use crate::form::Frame;
 use crate::header::AfterAck;
 use crate::header::AfterMain;
+use crate::header::LAST;
+use crate::header::VERSION;
 use crate::range::in_range;
 
 /// Why a frame is not written.
@@ -36,14 +38,14 @@ fn main_word(next: AfterMain, to: ConnId, size: usize) -> u32
     requires { ⌜ size < 32768 ⌝ }
     ensures { λ r. ⌜ r ≡ packed (mainRow (afterMain next) (to .0) size) ⌝ }
 {
-    ((next as u32) << 28) + (3 << 25) + (u32::from(to.0) << 16) + size as u32
+    ((next as u32) << 28) + (VERSION << 25) + (u32::from(to.0) << 16) + size as u32
 }
 
 fn conn_word(kind: ConnType, window: WindowExponent, published: ConnId) -> u32
     requires { ⌜ window .0 < 16 ⌝ }
     ensures { λ r. ⌜ r ≡ packed (connRow (typeNumber kind) (window .0) (published .0)) ⌝ }
 {
-    (15 << 28)
+    (LAST << 28)
         + (u32::from(kind.number()) << 24)
         + (u32::from(window.0) << 20)
         + u32::from(published.0)
@@ -63,14 +65,14 @@ fn nack_word(count: u8, from: SeqNo) -> u32
     requires { ⌜ from .0 ≤ 4095 ⌝ }
     ensures { λ r. ⌜ r ≡ packed (nackRow count (from .0)) ⌝ }
 {
-    (15 << 28) + (u32::from(count) << 16) + u32::from(from.0)
+    (LAST << 28) + (u32::from(count) << 16) + u32::from(from.0)
 }
 
 fn fragment_word(fragment: Fragment) -> u32
     requires { ⌜ fragment .number < 32768 ⌝ }
     ensures { λ r. ⌜ r ≡ packed (fragRow (bit (fragment .more)) (fragment .number)) ⌝ }
 {
-    (15 << 28) + (u32::from(fragment.more) << 15) + u32::from(fragment.number)
+    (LAST << 28) + (u32::from(fragment.more) << 15) + u32::from(fragment.number)
 }
 
 fn address_word(dst: u16, src: u16) -> u32

@@ -16,6 +16,11 @@ other name text apart =
     elim (sameBytes name text) as (λ b. (b ≡ true → name ≡ text) → b ≡ false)
     [ true ↦ λ k. absurd (apart (k refl)) | false ↦ λ k. refl ] (sameBytes-decides name text .0)
 
+-- No word where a name should stand.
+pub unnamed : (name : List ℕ) (rest : Rest) (wrong : List ℕ) → _≡_ {A = Taken (List ℕ)} (Err wrong) (wordAfter name rest) → _≡_ {A = Taken (Unit {0})} (Err wrong) (nameAfter name rest)
+unnamed name rest wrong e =
+    ap (λ (t : Taken (List ℕ)). next t (λ found left. cond (sameBytes found name) (Ok (tt, left)) (Err (wordText name found)))) e
+
 -- A word where a name should stand.
 module _ (name found : List ℕ) (left rest : Rest) (e : _≡_ {A = Taken (List ℕ)} (Ok (found, left)) (wordAfter name rest)) where
   judged : nameAfter name rest ≡ cond (sameBytes found name) (Ok (tt, left)) (Err (wordText name found))

@@ -113,7 +113,8 @@ fn conn(to: u32, kind: u32, window: u32, published: u32) -> Option<Frame<'static
 }
 
 impl Draft {
-    /// The frame with these fields. A number that no field of its kind can hold is out of range.
+    /// The frame with these fields, or none where a number is too large for its field. Fields out of range may come either
+    /// way: the writer declines them.
     pub fn frame(&self) -> Option<Frame<'_>>
         ensures { λ r. ⌜ Cases r (inRange (fieldsOf (now (self .entry))) ≡ false) (λ f. fields f ≡ fieldsOf (now (self .entry))) ⌝ }
     {

@@ -13,12 +13,16 @@ use crate::wrong::StopFromWrong;
 use crate::wrong::Wrong;
 use std::alloc::Global;
 
+/// What one line asks for.
 #[derive(Drop)]
 pub enum Line {
     /// A blank line or a comment.
     Nothing,
+    /// What the reader answers for these bytes.
     Read(Vec<u8>),
+    /// What the entry for C answers for them.
     Cread(Vec<u8>),
+    /// The bytes of a frame with these fields.
     Write(Draft),
 }
 
@@ -128,6 +132,7 @@ fn is_skipped(line: &str) -> bool
 }
 
 impl Line {
+    /// What a line says, or what is wrong with it.
     pub fn parse<'a>(heap: Global, line: &'a str) -> Result<Line, Stop<'a>>
         ensures { λ r. ⌜ Tells said r (saidBy (now (line .entry))) ⌝ }
     {
