@@ -64,3 +64,8 @@ printed n (Err wrong) = Some (wrongLine n wrong)
 -- What was printed for fields in range, typed behind `read`, prints the form of these fields.
 abbrev pub Reads-back : Fields → (text : List ℕ) → Type 0
 Reads-back f text = inRange f ≡ true → (n : ℕ) → printed n (saidBy (codes "read " ++ drop 9 text)) ≡ Some (codes "read -> " ++ formText f)
+
+-- What was printed for a frame that was read, typed behind `write`, prints the bytes of that frame, without its padding.
+abbrev pub Writes-back : Result Fields FrameFault → (text : List ℕ) → Type 0
+Writes-back r text =
+    (f : Fields) → r ≡ Ok f → (n : ℕ) → printed n (saidBy (codes "write " ++ drop 8 text)) ≡ Some (codes "write -> " ++ hexed (bytes f))

@@ -9,7 +9,7 @@ ghost use Rattle.frame.specs.Fields.{fields, answer};
 ghost use Rattle.frame.specs.Reader.{frameOf};
 ghost use Rattle.scenario.specs.Draft.{fieldsOf};
 ghost use Rattle.scenario.specs.Lines.{said, saidBy};
-ghost use Rattle.bench.specs.Answer.{faultText, layerText, readText, creadText, writeText, answerOf, wrongLine, printed, Reads-back};
+ghost use Rattle.bench.specs.Answer.{faultText, layerText, readText, creadText, writeText, answerOf, wrongLine, printed, Reads-back, Writes-back};
 ghost use Rattle.scenario.specs.Wrong.{wrongText};
 use frame::Frame;
 use frame::FrameFault;
@@ -63,7 +63,8 @@ fn read_text(heap: Global, read: Result<Frame, FrameFault>) -> Result<String, Al
 
 // What reading bytes as a frame answers.
 fn read_line(heap: Global, bytes: &[u8]) -> Result<String, AllocError>
-    ensures { λ r. ⌜ made r (λ s. string-bytes s ≡ readText (frameOf (now (bytes .entry)))) ⌝ }
+    ensures value { λ r. ⌜ made r (λ s. string-bytes s ≡ readText (frameOf (now (bytes .entry)))) ⌝ }
+    ensures writes_back { λ r. ⌜ made r (λ s. Writes-back (frameOf (now (bytes .entry))) (string-bytes s)) ⌝ }
 {
     read_text(heap, frame::read(bytes))
 }

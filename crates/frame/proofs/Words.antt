@@ -42,7 +42,7 @@ word-split bs at small room =
     let e1 : drop (at + 1) bs ≡ getD bs (at + 1) 0 ∷ drop (at + 1 + 1) bs = drop-more bs (at + 1) 0 (omega arith) in
     let e2 : drop (at + 2) bs ≡ getD bs (at + 2) 0 ∷ drop (at + 2 + 1) bs = drop-more bs (at + 2) 0 (omega arith) in
     let e3 : drop (at + 3) bs ≡ getD bs (at + 3) 0 ∷ drop (at + 3 + 1) bs = drop-more bs (at + 3) 0 (omega arith) in
-    let k1 : at + 1 + 1 ≡ at + 2 = omega arith in
-    let k2 : at + 2 + 1 ≡ at + 3 = omega arith in
-    let k3 : at + 3 + 1 ≡ at + 4 = omega arith in
+    let two : at + 1 + 1 ≡ at + 2 = omega arith in
+    let three : at + 2 + 1 ≡ at + 3 = omega arith in
+    let next : at + 3 + 1 ≡ at + 4 = omega arith in
     cc

@@ -4,3 +4,4 @@ pub mod Testing
 pub mod Cutting
 pub mod Naming
 pub mod Typing
+pub mod Retyping

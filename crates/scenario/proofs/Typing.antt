@@ -42,14 +42,14 @@ hexed-some [] = omega arith
 hexed-some (b ∷ bs) = omega arith
 
 -- A text without a space is one word.
-word-alone : (w : List ℕ) → Unspaced w → 0 < length w → someWord w ≡ Ok (w, None)
+pub word-alone : (w : List ℕ) → Unspaced w → 0 < length w → someWord w ≡ Ok (w, None)
 word-alone w u some′ =
     let first : firstWord w ≡ w = first-alone w u in
     let behind : behindWord w ≡ None = behind-alone w u in
     let full : eqb (length w) 0 ≡ false = ne-eqb (length w) 0 (λ e. omega arith) in
     rw (first, behind, full)
 
-bytes-alone : (bs : List ℕ) → ((i : ℕ) → getD bs i 0 < 256) → bytesAfter (Some (hexed bs)) ≡ Ok (bs, None)
+pub bytes-alone : (bs : List ℕ) → ((i : ℕ) → getD bs i 0 < 256) → bytesAfter (Some (hexed bs)) ≡ Ok (bs, None)
 bytes-alone bs small =
     ap (λ (t : Taken (List ℕ)). next t (λ word left. orWrong (unhexed word) (bytesText word) left)) (word-alone (hexed bs) (hexed-unspaced bs) (hexed-some bs))
     ∙ ap (λ (o : Option (List ℕ)). orWrong o (bytesText (hexed bs)) None) (unhexed-hexed bs small)
