@@ -1,20 +1,18 @@
 -- What is read is exactly the frame of the fields answered, and then padding.
-use Rattle.std.proofs.Common.{◌≡◌, ℕ, ◌+◌, ◌-◌, ◌<◌, ◌≤◌, Bool, true, false, cond, not, eqb, List, [], ◌∷◌, ◌++◌, length, take, drop, Ok, Err, Result, sym, refl, ap, ◌∙◌, subst, arith, ltb-false, eqb-true}
+use Rattle.std.proofs.Common.{◌≡◌, ℕ, ◌+◌, ◌-◌, ◌<◌, ◌≤◌, true, false, eqb, List, [], ◌∷◌, ◌++◌, length, take, drop, Ok, sym, refl, ap, ◌∙◌, subst, arith, ltb-false, eqb-true}
 use borrow.Author.Tests.{eqb-false}
 use Rattle.std.proofs.lemmas.Bool.{not-false}
 use Rattle.std.proofs.lemmas.List.{take-append-drop, drop-drop, length-take-le, length-drop}
-use Rattle.frame.specs.declared.fault.FrameFault.{FrameFault}
 use Rattle.frame.specs.declared.fault.FrameFault.TheVariants.{Header}
-use Rattle.frame.specs.declared.fault.HeaderFault.{HeaderFault}
 use Rattle.frame.specs.Numbers.{CONN, UDATA, ACK, NACK, FRAG, LAST}
 use Rattle.frame.specs.Fields.{HeadFields, Fields, conn, ack, nack, udata, frag}
-use Rattle.frame.specs.Layout.{Row, packed, main_row, conn_row, ack_row, nack_row, frag_row, address_row, big_endian, bytes}
-use Rattle.frame.specs.Ranges.{all, within, is_number, conn_fits, head_fits, count_fits, udata_fits, frag_fits, length_fits, in_range}
-use Rattle.frame.specs.Checks.{judged, then}
-use Rattle.frame.specs.Reader.{MainFields, AckFields, word_at, field, part, is_not, is_one_of, main_checks, main_word, main_of, conn_checks, conn_of, ack_checks, ack_word, ack_of, last_checks, last_of, nack_checks, nack_of, udata_checks, udata_of, frag_checks, frag_of, behind_ack, behind_main, frame_of}
+use Rattle.frame.specs.Layout.{packed, main_row, conn_row, ack_row, nack_row, frag_row, address_row, big_endian}
+use Rattle.frame.specs.Ranges.{all, within, is_number, conn_fits, head_fits, count_fits, udata_fits, frag_fits, length_fits}
+use Rattle.frame.specs.Checks.{then}
+use Rattle.frame.specs.Reader.{MainFields, word_at, field, part, is_not, is_one_of, main_checks, main_word, main_of, conn_checks, conn_of, ack_checks, ack_word, ack_of, last_checks, last_of, nack_checks, nack_of, udata_checks, udata_of, frag_checks, frag_of, behind_ack, behind_main, frame_of}
 use Rattle.frame.specs.Laws.{Carries}
 use Rattle.frame.proofs.Judging.{ways, NoneHolds, judged_passed, then_passed}
-use Rattle.frame.proofs.Rows.{Stand, stand_packed}
+use Rattle.frame.proofs.Rows.{stand_packed}
 use Rattle.frame.proofs.Words.{Bytes, word_split}
 use Rattle.frame.proofs.Fitting.{all_true, within_is}
 

@@ -1,9 +1,9 @@
 -- What fields in range give: the tests of `specs/Ranges` as facts.
-use Rattle.std.proofs.Common.{◌≡◌, ℕ, ◌<◌, ◌≤◌, Bool, true, false, cond, eqb, leb, ◌⊎◌, List, [], ◌∷◌, length, refl, inl, inr, arith, lit<, rules, eqb-true, leb-true}
+use Rattle.std.proofs.Common.{◌≡◌, ℕ, ◌<◌, ◌≤◌, Bool, true, false, eqb, leb, List, [], ◌∷◌, length, refl, arith, lit<, eqb-true, leb-true}
 use Rattle.std.proofs.lemmas.Bool.{le-leb}
-use Rattle.frame.specs.Fields.{HeadFields, Fields, nack, udata, frag}
+use Rattle.frame.specs.Fields.{HeadFields, udata, frag}
 use Rattle.frame.proofs.Judging.{ways}
-use Rattle.frame.specs.Ranges.{all, within, is_number, conn_fits, head_fits, count_fits, udata_fits, frag_fits, length_fits, in_range}
+use Rattle.frame.specs.Ranges.{all, within, is_number, conn_fits, head_fits, udata_fits, frag_fits, length_fits, in_range}
 
 abbrev pub EachTrue : List Bool → Type 0
 EachTrue [] = Unit {0}

@@ -1,5 +1,5 @@
 -- A row of checks passes exactly if no test in it holds.
-use Rattle.std.proofs.Common.{◌≡◌, ℕ, Bool, true, false, cond, List, [], ◌∷◌, Ok, Err, Result, refl, arith}
+use Rattle.std.proofs.Common.{◌≡◌, ℕ, Bool, true, false, cond, [], ◌∷◌, Ok, Err, Result, refl, arith}
 use Rattle.frame.specs.Checks.{Checks, judged, then}
 
 -- The way that a test took.

@@ -1,7 +1,7 @@
 -- Words laid one after the other to the front of a place.
 use Rattle.std.proofs.Common.{◌≡◌, ℕ, ◌+◌, ◌*◌, ◌<◌, ◌≤◌, List, [], ◌∷◌, ◌++◌, length, get_or, take, drop, sym, refl, ap, ◌∙◌, arith}
 use lib.Seq.{paste}
-use Rattle.std.proofs.lemmas.List.{length-append, length-take-le, take_at, drop_at, drop-drop, take_more, flat_map_more, append_assoc}
+use Rattle.std.proofs.lemmas.List.{length-take-le, take_at, drop_at, drop-drop, take_more, flat_map_more}
 use Rattle.std.proofs.lemmas.List.Edits.{paste_all}
 use Rattle.frame.specs.Layout.{big_endian, laid}
 

@@ -1,13 +1,12 @@
 -- A header whose fields stand in its word and are in range passes its checks, and gives these fields.
-use Rattle.std.proofs.Common.{◌≡◌, ℕ, ◌+◌, ◌-◌, ◌≤◌, Bool, true, false, cond, not, eqb, List, [], ◌∷◌, length, Ok, Err, Result, refl, ap, ◌∙◌, arith, le-ltb, eq-eqb}
+use Rattle.std.proofs.Common.{◌≡◌, ℕ, ◌+◌, ◌-◌, ◌≤◌, true, false, eqb, List, [], ◌∷◌, length, Ok, refl, ap, ◌∙◌, arith, le-ltb, eq-eqb}
 use Rattle.std.proofs.lemmas.Bool.{not_from_true}
-use Rattle.frame.specs.declared.fault.HeaderFault.{HeaderFault}
 use Rattle.frame.specs.Numbers.{CONN, UDATA, ACK, NACK, FRAG, LAST}
-use Rattle.frame.specs.Fields.{HeadFields, Fields, conn, nack, udata, frag}
+use Rattle.frame.specs.Fields.{HeadFields, conn, nack, udata, frag}
 use Rattle.frame.specs.Layout.{main_row, conn_row, ack_row, nack_row, frag_row, address_row}
 use Rattle.frame.specs.Ranges.{all, conn_fits, count_fits, udata_fits, frag_fits, length_fits}
 use Rattle.frame.specs.Checks.{judged}
-use Rattle.frame.specs.Reader.{MainFields, AckFields, field, is_not, is_one_of, main_checks, main_word, conn_checks, ack_checks, ack_word, nack_checks, udata_checks, frag_checks}
+use Rattle.frame.specs.Reader.{AckFields, field, is_not, is_one_of, main_checks, main_word, conn_checks, ack_checks, ack_word, nack_checks, udata_checks, frag_checks}
 use Rattle.frame.proofs.Judging.{judged_passes}
 use Rattle.frame.proofs.Rows.{Stand}
 

@@ -1,16 +1,16 @@
 -- Every set of fields in range reads back from its bytes, whatever lies behind.
-use Rattle.std.proofs.Common.{◌≡◌, ℕ, ◌+◌, ◌-◌, ◌<◌, ◌≤◌, Bool, true, false, eqb, List, [], ◌∷◌, ◌++◌, length, take, drop, Ok, Err, Result, refl, ap, ◌∙◌, arith, lit<, ne_eqb}
+use Rattle.std.proofs.Common.{◌≡◌, ℕ, ◌+◌, ◌-◌, ◌<◌, ◌≤◌, Bool, true, false, eqb, List, [], ◌∷◌, ◌++◌, length, take, Ok, Result, refl, ap, ◌∙◌, arith, lit<, ne_eqb}
 use Rattle.std.proofs.lemmas.List.{take_at, length-append}
 use Rattle.frame.specs.declared.fault.FrameFault.{FrameFault}
 use Rattle.frame.specs.declared.fault.FrameFault.TheVariants.{Header}
 use Rattle.frame.specs.declared.fault.HeaderFault.{HeaderFault}
 use Rattle.frame.specs.Numbers.{CONN, UDATA, ACK, NACK, FRAG, LAST}
 use Rattle.frame.specs.Fields.{HeadFields, Fields, conn, ack, nack, udata, frag}
-use Rattle.frame.specs.Layout.{Row, packed, main_row, conn_row, ack_row, nack_row, frag_row, address_row, big_endian, bytes}
+use Rattle.frame.specs.Layout.{packed, main_row, conn_row, ack_row, nack_row, frag_row, address_row, big_endian, bytes}
 use Rattle.frame.specs.Ranges.{all, within, head_fits, count_fits, in_range}
 use Rattle.frame.specs.Checks.{judged, then}
-use Rattle.frame.specs.Reader.{MainFields, AckFields, word_at, field, part, is_one_of, main_checks, main_word, main_of, conn_checks, conn_of, ack_checks, ack_word, ack_of, nack_checks, nack_of, udata_checks, udata_of, frag_checks, frag_of, behind_ack, behind_main, frame_of}
-use Rattle.frame.proofs.Rows.{Fit, Stand, packed_below, packed_stand}
+use Rattle.frame.specs.Reader.{MainFields, AckFields, word_at, field, is_one_of, main_checks, main_word, main_of, conn_checks, ack_checks, ack_word, ack_of, nack_checks, udata_checks, frag_checks, behind_ack, behind_main, frame_of}
+use Rattle.frame.proofs.Rows.{Fit, packed_below, packed_stand}
 use Rattle.frame.proofs.Words.{word_laid}
 use Rattle.frame.proofs.Fitting.{each_true, is_within, HeadFacts, head_fits_is, conn_fits_is, udata_below, frag_below, udata_fits_is, frag_fits_is}
 use Rattle.frame.proofs.Passing.{main_passes, conn_passes, ack_passes, nack_passes, udata_passes, frag_passes}

@@ -1,5 +1,5 @@
 -- A word and the fields of its row give each other, whatever the row.
-use Rattle.std.proofs.Common.{◌≡◌, ℕ, ◌+◌, ◌*◌, ◌/◌, ◌%◌, ◌^◌, ◌<◌, List, [], ◌∷◌, sym, refl, ap, ◌∙◌, subst, add_assoc, mod-eq_of_lt, mul_assoc, add-mul, arith, lit<}
+use Rattle.std.proofs.Common.{◌≡◌, ℕ, ◌+◌, ◌*◌, ◌%◌, ◌^◌, ◌<◌, [], ◌∷◌, sym, ap, ◌∙◌, subst, add_assoc, mod-eq_of_lt, mul_assoc, add-mul, arith, lit<}
 use lib.Arith.{digits_lt}
 use Rattle.std.proofs.lemmas.Nat.{pow-add, mod-pow-add, shr_high, mod_low}
 use Rattle.frame.specs.Layout.{Row, width, packed}

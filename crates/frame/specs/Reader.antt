@@ -1,6 +1,5 @@
 -- What reading a list of bytes answers: the fields of a form, or the fault that is tried first.
-use Rattle.std.specs.Prelude.{ℕ, ◌+◌, ◌-◌, ◌*◌, ◌/◌, ◌%◌, ◌^◌, Bool, true, false, cond, not, List, [], ◌∷◌, length, Ok, Err, Result, ◌==◌, nat_lt, slice_index, slice_range}
-use Rattle.frame.specs.declared.fault.Cause.{Cause}
+use Rattle.std.specs.Prelude.{ℕ, ◌+◌, ◌-◌, ◌*◌, ◌/◌, ◌%◌, ◌^◌, Bool, true, false, cond, not, List, [], ◌∷◌, length, Ok, Result, ◌==◌, nat_lt, slice_index, slice_range}
 use Rattle.frame.specs.declared.fault.Cause.TheVariants.{Short, Version, Reserved, Next, Size, Range}
 use Rattle.frame.specs.declared.fault.HeaderFault.{HeaderFault}
 use Rattle.frame.specs.declared.fault.FrameFault.{FrameFault}

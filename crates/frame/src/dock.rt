@@ -1,4 +1,4 @@
-//! The reader for programs in C. `include/linx_frame.h` declares it.
+//! What a program in C is told of a frame. The crate `frame_c` exports it.
 ghost use Rattle.std.specs.Prelude.{◌≡◌};
 ghost use Rattle.frame.specs.Reader.{frame_of};
 ghost use Rattle.frame.specs.Kinds.{code};
@@ -6,8 +6,7 @@ ghost use Rattle.frame.specs.Kinds.{code};
 use crate::reader::read;
 
 /// The kind of the frame at the front of the bytes, or cause × 256 + place.
-#[unsafe(no_mangle)]
-pub extern "C" fn linx_frame_read(bytes: &[u8]) -> u32
+pub fn linx_frame_read(bytes: &[u8]) -> u32
     ensures { result ≡ code (frame_of bytes.now) }
 {
     match read(bytes) {

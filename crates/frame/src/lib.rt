@@ -1,5 +1,7 @@
 //! The frames of a LINX Ethernet connection: bytes to fields and back, and nothing of what frames do.
 //! `read` answers a `Frame` or a `FrameFault`; `write` puts a `Frame` into a place. `docs/PROTOCOL.md` has every bit.
+#![tactic(auto)]
+
 mod dock;
 mod fault;
 mod fields;

@@ -4,4 +4,4 @@ use Rattle.frame.proofs.reader.read.Goals as goal
 
 pub returns : goal.returns
 returns c =
-    record { value = c.parse.ensures; meaning = means c.args.bytes.now (λ i. omega (arith, c.type-inv.bytes i)) _ c.parse.ensures }
+    record { value = c.parse.ensures; meaning = means c.args.bytes.now (λ i. omega (arith, c.type_inv.bytes i)) _ c.parse.ensures }

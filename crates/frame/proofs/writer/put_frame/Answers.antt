@@ -1,4 +1,4 @@
-use Rattle.std.proofs.Common.{◌≡◌, ℕ, ◌+◌, ◌*◌, List, ◌++◌, length, drop, ap, ◌∙◌, rules}
+use Rattle.std.proofs.Common.{ℕ, ◌*◌, List, ◌++◌, length, drop, ap, ◌∙◌, rules}
 use Rattle.frame.specs.Layout.{laid}
 use Rattle.frame.proofs.Laying.{drop_pasted}
 use Rattle.frame.proofs.writer.put_frame.Goals as goal
@@ -9,7 +9,7 @@ returns c =
     record {
       value = search rules;
       after =
-          c.put-words.ensures
-          ∙ ap (λ (d : List ℕ). laid ws ++ drop (4 * length ws) d) c.put-at.ensures
+          c.put_words.ensures
+          ∙ ap (λ (d : List ℕ). laid ws ++ drop (4 * length ws) d) c.put_at.ensures
           ∙ ap (λ (d : List ℕ). laid ws ++ d) (drop_pasted c.args.place.now c.args.payload.now (4 * length ws) c.requires);
     }
