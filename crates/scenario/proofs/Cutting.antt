@@ -1,6 +1,6 @@
 -- The first word of a text and what lies behind it.
-use Rattle.std.proofs.Common.{◌≡◌, ℕ, suc, ◌<◌, Bool, true, false, cond, eqb, List, [], ◌∷◌, ◌++◌, length, get_or, Some, None, sym, refl, ap, ◌∙◌, arith, ne_eqb}
-use Rattle.scenario.specs.Words.{Rest, first_word, behind_word}
+use Rattle.std.proofs.Common.{◌≡◌, ℕ, suc, ◌<◌, false, eqb, List, [], ◌∷◌, ◌++◌, length, get_or, Some, None, refl, ap, arith, ne_eqb}
+use Rattle.scenario.specs.Words.{first_word, behind_word}
 
 -- No byte of it is a space.
 abbrev pub Unspaced : List ℕ → Type 0

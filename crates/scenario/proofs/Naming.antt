@@ -4,7 +4,7 @@ use Rattle.std.specs.Str.{bytes_eq}
 use Rattle.std.proofs.lemmas.Slice.Eq.{bytes_eq-Decides}
 use Rattle.scenario.specs.Wrong.{command_text, unknown_text, word_text}
 use Rattle.scenario.specs.Words.{Rest, Taken, next, word_after, name_after}
-use Rattle.scenario.specs.Lines.{Said, form_named, call_named}
+use Rattle.scenario.specs.Lines.{form_named, call_named}
 
 pub other : (name text : List ℕ) → (name ≡ text → ⊥) → bytes_eq name text ≡ false
 other name text apart =

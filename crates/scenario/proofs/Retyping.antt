@@ -1,15 +1,15 @@
 -- The text of a form, typed behind `write`, says the fields it was made of.
-use Rattle.std.proofs.Common.{◌≡◌, ℕ, ◌+◌, ◌^◌, ◌<◌, ◌≤◌, min, Bool, true, false, cond, ◌&&◌, eqb, ltb, List, [], ◌∷◌, ◌++◌, length, get_or, Some, None, Ok, Err, codes, decimal, Option, sym, refl, ap, ◌∙◌, arith, lt-ltb, ne_eqb}
+use Rattle.std.proofs.Common.{◌≡◌, ℕ, ◌^◌, ◌<◌, ◌≤◌, min, true, false, eqb, ltb, List, [], ◌∷◌, ◌++◌, length, get_or, Some, None, Ok, codes, decimal, Option, ap, ◌∙◌, arith, lt-ltb, ne_eqb}
 use Rattle.std.specs.Str.Parse.{digits_value}
 use Rattle.std.specs.Str.{all_ascii_digits}
 use Rattle.std.proofs.lemmas.Str.Parse.{IsNumeralModel, numerals_by_value, tells_all_ascii_digits, digit_at}
 use Rattle.std.proofs.lemmas.Fmt.{decimal_is_IsNumeral, decimal_nonempty, digits_decimal, digits_value-decimal}
 use Rattle.frame.specs.Fields.{HeadFields, Fields, conn, ack, nack, udata, frag}
 use Rattle.scenario.specs.Wrong.{number_text}
-use Rattle.scenario.specs.Form.{line, head_text, form_text}
-use Rattle.scenario.specs.Words.{Rest, Taken, next, first_word, behind_word, some_word, word_after, name_after, number_of, or_wrong, number_after}
+use Rattle.scenario.specs.Form.{head_text, form_text}
+use Rattle.scenario.specs.Words.{Taken, next, first_word, behind_word, some_word, number_of, or_wrong}
 use Rattle.scenario.specs.Lines.{head_after, form_after, write, ended, said_by}
-use Rattle.scenario.proofs.Cutting.{Unspaced, first_before, behind_before, first_alone, behind_alone}
+use Rattle.scenario.proofs.Cutting.{Unspaced, first_before, behind_before}
 use Rattle.frame.specs.Layout.{payload}
 use Rattle.frame.specs.Ranges.{within, head_fits, count_fits, in_range}
 use Rattle.frame.proofs.Fitting.{each_true, is_within, HeadFacts, head_fits_is, conn_fits_is, udata_fits_is, frag_fits_is, udata_below, frag_below}

@@ -1,11 +1,11 @@
 -- What is printed can be typed again: bytes behind `read` say these bytes.
-use Rattle.std.proofs.Common.{◌≡◌, ℕ, zero, suc, ◌+◌, ◌/◌, ◌%◌, ◌<◌, ◌≤◌, Bool, true, false, cond, eqb, ltb, List, [], ◌∷◌, ◌++◌, length, get_or, Some, None, Ok, Err, codes, Option, sym, refl, ap, ◌∙◌, arith, ne_eqb}
+use Rattle.std.proofs.Common.{◌≡◌, ℕ, zero, suc, ◌/◌, ◌%◌, ◌<◌, false, eqb, List, [], ◌∷◌, ◌++◌, length, get_or, Some, None, Ok, codes, Option, ap, ◌∙◌, arith, ne_eqb}
 use Rattle.std.specs.List.{flat_map}
 use Rattle.std.proofs.lemmas.Bool.Decides.{nat_tests}
 use Rattle.scenario.specs.Hex.{digit_of, pair_of, hexed, unhexed}
-use Rattle.scenario.specs.Words.{Rest, Taken, next, first_word, behind_word, some_word, or_wrong, bytes_after}
-use Rattle.scenario.specs.Wrong.{gap_text, bytes_text}
-use Rattle.scenario.specs.Lines.{Said, read, ended, said_by}
+use Rattle.scenario.specs.Words.{Taken, next, first_word, behind_word, some_word, or_wrong, bytes_after}
+use Rattle.scenario.specs.Wrong.{bytes_text}
+use Rattle.scenario.specs.Lines.{read, ended, said_by}
 use Rattle.scenario.proofs.Cutting.{Unspaced, first_alone, behind_alone}
 use Rattle.scenario.proofs.Hexing.{unhexed_hexed}
 

@@ -1,5 +1,5 @@
 -- The fields that a typed form asks for, in range or not.
-use Rattle.std.specs.Prelude.{ℕ, Bool, true, false, vec_items}
+use Rattle.std.specs.Prelude.{vec_items}
 use Rattle.frame.specs.Fields.{HeadFields, Fields, conn, ack, nack, udata, frag}
 use Rattle.scenario.specs.declared.draft.HeadDraft.{HeadDraft}
 use Rattle.scenario.specs.declared.draft.Draft.{Draft}

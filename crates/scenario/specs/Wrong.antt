@@ -1,5 +1,5 @@
 -- What is wrong with a line, in words.
-use Rattle.std.specs.Prelude.{ℕ, List, [], ◌∷◌, ◌++◌, codes}
+use Rattle.std.specs.Prelude.{ℕ, List, [], ◌∷◌, codes}
 use Rattle.scenario.specs.Form.{line}
 use Rattle.scenario.specs.declared.wrong.Wrong.{Wrong}
 use Rattle.scenario.specs.declared.wrong.Wrong.TheVariants.{Command, Form, Gap, Missing, Word, Number, Bytes, Rest}

@@ -1,5 +1,7 @@
 //! The language of scenarios: what a line says, and the text of frames and bytes.
 //! `Line::parse` reads a line; `form_text` and `hex` write what is answered.
+#![tactic(auto)]
+
 mod draft;
 mod form;
 mod hex;

@@ -20,6 +20,6 @@ pub returns : goal.returns
 returns c =
     let e : FrameFault = c.args.fault in
     let cause = c.number-cause.ensures ∙ ap cause_number c.cause.ensures in
-    let layer = c.layer-name-layer.ensures ∙ ap layer_text c.layer.ensures in
-    IfOk-weaker c.format.result (λ s. string_bytes s ≡ fault_line c.number-cause.result c.place-place.result c.layer-name-layer.result.now) (λ s. string_bytes s ≡ fault_text e)
-    (λ s h. h ∙ same_line e c.number-cause.result c.place-place.result c.layer-name-layer.result.now cause c.place-place.ensures layer) c.format.ensures.ok
+    let layer = c.layer_name-layer.ensures ∙ ap layer_text c.layer.ensures in
+    IfOk-weaker c.format.result (λ s. string_bytes s ≡ fault_line c.number-cause.result c.place-place.result c.layer_name-layer.result.now) (λ s. string_bytes s ≡ fault_text e)
+    (λ s h. h ∙ same_line e c.number-cause.result c.place-place.result c.layer_name-layer.result.now cause c.place-place.ensures layer) c.format.ensures.ok

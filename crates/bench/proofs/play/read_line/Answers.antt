@@ -12,9 +12,9 @@ pub returns : goal.returns
 returns c =
     let bs = c.args.bytes.now in
     let same = c.read.ensures.value in
-    let text = subst (λ (a : Result Fields FrameFault). IfOk c.read-text.result (λ s. string_bytes s ≡ read_text a)) same c.read-text.ensures in
+    let text = subst (λ (a : Result Fields FrameFault). IfOk c.read_text.result (λ s. string_bytes s ≡ read_text a)) same c.read_text.ensures in
     let means = subst (λ (a : Result Fields FrameFault). Means bs a) same c.read.ensures.meaning in
     record {
       value = text;
-      writes_back = IfOk-weaker c.read-text.result (λ s. string_bytes s ≡ read_text (frame_of bs)) (λ s. WritesBack (frame_of bs) (string_bytes s)) (λ s h. subst (WritesBack (frame_of bs)) (sym h) (writes_back bs (frame_of bs) (λ i. omega (arith, c.type-inv.bytes i)) means)) text;
+      writes_back = IfOk-weaker c.read_text.result (λ s. string_bytes s ≡ read_text (frame_of bs)) (λ s. WritesBack (frame_of bs) (string_bytes s)) (λ s h. subst (WritesBack (frame_of bs)) (sym h) (writes_back bs (frame_of bs) (λ i. omega (arith, c.type_inv.bytes i)) means)) text;
     }

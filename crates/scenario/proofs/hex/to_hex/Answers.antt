@@ -9,9 +9,9 @@ use Rattle.scenario.proofs.hex.to_hex.Goals as goal
 pub returns : goal.returns
 returns c =
     let bs : List ℕ = c.args.bytes.now in
-    let small : (i : ℕ) → get_or bs i 0 < 256 = λ i. omega (arith, c.type-inv.bytes i) in
+    let small : (i : ℕ) → get_or bs i 0 < 256 = λ i. omega (arith, c.type_inv.bytes i) in
     record {
-      value = c.text-of.ensures;
-      reads_back = IfOk-weaker c.text-of.result (λ s. string_bytes s ≡ hexed bs) (λ s. unhexed (string_bytes s) ≡ Some bs) (λ s h. ap unhexed h ∙ unhexed_hexed bs small) c.text-of.ensures;
-      typed = IfOk-weaker c.text-of.result (λ s. string_bytes s ≡ hexed bs) (λ s. said_by (codes "read " ++ string_bytes s) ≡ Ok (read bs)) (λ s h. ap (λ (t : List ℕ). said_by (codes "read " ++ t)) h ∙ read_typed bs small) c.text-of.ensures;
+      value = c.text_of.ensures;
+      reads_back = IfOk-weaker c.text_of.result (λ s. string_bytes s ≡ hexed bs) (λ s. unhexed (string_bytes s) ≡ Some bs) (λ s h. ap unhexed h ∙ unhexed_hexed bs small) c.text_of.ensures;
+      typed = IfOk-weaker c.text_of.result (λ s. string_bytes s ≡ hexed bs) (λ s. said_by (codes "read " ++ string_bytes s) ≡ Ok (read bs)) (λ s h. ap (λ (t : List ℕ). said_by (codes "read " ++ t)) h ∙ read_typed bs small) c.text_of.ensures;
     }

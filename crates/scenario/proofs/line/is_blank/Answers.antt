@@ -18,12 +18,12 @@ no_space c h = grind (arith, nat_tests)
 
 pub returns-then-byte-ne32 : goal.returns-then-byte-ne32
 returns-then-byte-ne32 c =
-    fails space is_blank law c.as-bytes-byte-items.result.now c.args.line.now c.loop-byte.byte-index c.as-bytes-byte-items.ensures.value c.loop-byte.invariant c.loop-byte-test.true (no_space (get_or c.as-bytes-byte-items.result.now c.loop-byte.byte-index 0) c.if-byte-ne32.true)
+    fails space is_blank law c.as_bytes-byte-items.result.now c.args.line.now c.loop-byte.byte-index c.as_bytes-byte-items.ensures.value c.loop-byte.invariant c.loop-byte-test.true (no_space (get_or c.as_bytes-byte-items.result.now c.loop-byte.byte-index 0) c.if-byte-ne32.true)
 
 pub loop-byte-preserved : goal.loop-byte-preserved
 loop-byte-preserved c =
-    passes space is_blank law c.as-bytes-byte-items.result.now c.args.line.now c.loop-byte.byte-index c.as-bytes-byte-items.ensures.value c.loop-byte.invariant c.loop-byte-test.true (is_space (get_or c.as-bytes-byte-items.result.now c.loop-byte.byte-index 0) c.if-byte-ne32.false)
+    passes space is_blank law c.as_bytes-byte-items.result.now c.args.line.now c.loop-byte.byte-index c.as_bytes-byte-items.ensures.value c.loop-byte.invariant c.loop-byte-test.true (is_space (get_or c.as_bytes-byte-items.result.now c.loop-byte.byte-index 0) c.if-byte-ne32.false)
 
 pub returns : goal.returns
 returns c =
-    passed space is_blank law c.as-bytes-byte-items.result.now c.args.line.now c.loop-byte.byte-index c.as-bytes-byte-items.ensures.value c.loop-byte.invariant c.loop-byte-test.false
+    passed space is_blank law c.as_bytes-byte-items.result.now c.args.line.now c.loop-byte.byte-index c.as_bytes-byte-items.ensures.value c.loop-byte.invariant c.loop-byte-test.false
