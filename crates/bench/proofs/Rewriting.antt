@@ -1,17 +1,16 @@
 -- What was printed for a frame that was read can be typed again, and prints its bytes.
-use Rattle.std.proofs.Common.{◌≡◌, ℕ, ◌+◌, ◌<◌, ◌≤◌, Bool, true, cond, List, [], ◌∷◌, ◌++◌, length, get_or, drop, Some, Ok, Err, codes, Result, sym, refl, ap, ◌∙◌, subst, inl, inr, ⊎_elim, arith}
+use Rattle.std.proofs.Common.{◌≡◌, ℕ, ◌+◌, ◌<◌, Bool, cond, List, ◌++◌, length, get_or, drop, Some, codes, Result, ap, ◌∙◌, ⊎_elim, arith}
 use Rattle.std.proofs.lemmas.List.{get_or_append_left, get_or-drop, get_or_past}
 use Rattle.std.proofs.lemmas.Bool.{cases_lt}
 use Rattle.frame.specs.declared.fault.FrameFault.{FrameFault}
 use Rattle.frame.specs.Fields.{Fields, conn, ack, nack, udata, frag}
 use Rattle.frame.specs.Layout.{bytes, payload}
-use Rattle.frame.specs.Ranges.{in_range}
 use Rattle.frame.specs.Laws.{Carries, Means}
 use Rattle.scenario.specs.Form.{form_text}
 use Rattle.scenario.specs.Hex.{hexed}
 use Rattle.scenario.specs.Lines.{said_by}
 use Rattle.scenario.proofs.Retyping.{write_typed}
-use Rattle.bench.specs.Answer.{read_text, write_text, printed, WritesBack}
+use Rattle.bench.specs.Answer.{read_text, printed, WritesBack}
 
 -- A part behind the first `k` bytes is made of bytes.
 part_small : (k : ℕ) (bs p pad : List ℕ) → ((i : ℕ) → get_or bs i 0 < 256) → drop k bs ≡ p ++ pad → (i : ℕ) → get_or p i 0 < 256

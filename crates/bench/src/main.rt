@@ -1,4 +1,6 @@
 //! Plays a scenario from standard input, line by line, and prints the answers.
+#![tactic(auto)]
+
 mod play;
 
 use play::Player;

@@ -1,7 +1,7 @@
-use Rattle.std.proofs.Common.{◌≡◌, IfOk, string_bytes, Result, sym, ◌∙◌, subst, arith}
+use Rattle.std.proofs.Common.{◌≡◌, IfOk, string_bytes, Result, sym, subst, arith}
 use Rattle.std.proofs.lemmas.Result.{IfOk-weaker}
 use Rattle.frame.specs.declared.fault.FrameFault.{FrameFault}
-use Rattle.frame.specs.Fields.{Fields, answer}
+use Rattle.frame.specs.Fields.{Fields}
 use Rattle.frame.specs.Laws.{Means}
 use Rattle.frame.specs.Reader.{frame_of}
 use Rattle.bench.specs.Answer.{read_text, WritesBack}
