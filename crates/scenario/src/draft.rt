@@ -1,6 +1,6 @@
 //! A form as it was typed: numbers that may lie outside their fields.
 ghost use Rattle.std.specs.Prelude.{◌≡◌, ◌<◌, ◌≤◌, false, ◌⊎◌, MatchOption};
-ghost use Rattle.frame.specs.Fields.{head_fields, fields, bit, conn as connFields};
+ghost use Rattle.frame.specs.Fields.{head_fields, fields, bit, conn as conn_fields};
 ghost use Rattle.frame.specs.Ranges.{conn_fits, head_fits, in_range};
 ghost use Rattle.scenario.specs.Draft.{head_of, fields_of};
 
@@ -93,7 +93,7 @@ fn fragment(more: u32, number: u32) -> Option<Fragment>
 }
 
 fn conn(to: u32, kind: u32, window: u32, published: u32) -> Option<Frame<'static>>
-    ensures { MatchOption result (conn_fits to kind window published ≡ false) (λ f. fields f ≡ connFields to kind window published) }
+    ensures { MatchOption result (conn_fits to kind window published ≡ false) (λ f. fields f ≡ conn_fields to kind window published) }
 {
     Some(Frame::Conn {
         to: ConnId(byte(to)?),
