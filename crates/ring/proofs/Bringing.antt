@@ -1,12 +1,12 @@
 -- An element that is swapped forward, step by step.
-use Rattle.std.proofs.Common.{◌≡◌, ℕ, zero, suc, ◌+◌, ◌-◌, ◌<◌, ◌≤◌, Bool, true, false, cond, ◌&&◌, ◌≢◌, List, [], ◌∷◌, ◌++◌, length, get_or, sym, refl, ap, ◌∙◌, subst, ⊎_elim, arith}
+use Rattle.std.proofs.Common.{◌≡◌, ℕ, zero, suc, ◌+◌, ◌-◌, ◌<◌, ◌≤◌, Bool, true, cond, ◌&&◌, ◌≢◌, List, length, get_or, sym, refl, ap, ◌∙◌, ⊎_elim, arith}
 use Rattle.std.proofs.lemmas.List.Edits.{swapped_from_swap, length-swap, length-remove, get_or-remove_below, get_or-remove_above}
 use Rattle.std.proofs.lemmas.List.{same_lists, get_or_default}
 use Rattle.std.proofs.lemmas.List.Sorted.{IsPermutation-refl, IsPermutation-swap, IsPermutation-trans}
 use Rattle.std.proofs.lemmas.Bool.{cases_lt, cases_eq, cond-true, and_from, eq-eqb, lt-ltb}
-use Rattle.std.specs.List.{swap, remove}
+use Rattle.std.specs.List.{swap}
 use Rattle.std.specs.List.Sorted.{IsPermutation}
-use Rattle.ring.specs.Span.{spot, rung}
+use Rattle.ring.specs.Span.{spot}
 use Rattle.ring.specs.Items.{span_of, items, holds, brought}
 use Rattle.ring.specs.declared.ring.Ring.{Ring}
 use Rattle.ring.proofs.Spans.{length_rung}

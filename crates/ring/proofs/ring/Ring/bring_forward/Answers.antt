@@ -1,4 +1,4 @@
-use Rattle.std.proofs.Common.{◌≡◌, ℕ, ◌<◌, length, sym, subst, arith}
+use Rattle.std.proofs.Common.{◌≡◌, sym, subst, arith}
 use Rattle.ring.specs.Items.{items}
 use Rattle.ring.proofs.Bringing.{Moved, moved_all, lifted_none, lifted_more, holds_below}
 use Rattle.ring.proofs.ring.Ring.bring_forward.Goals as goal

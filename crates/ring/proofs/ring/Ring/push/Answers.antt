@@ -1,6 +1,6 @@
-use Rattle.std.proofs.Common.{◌≡◌, ℕ, Bool, true, cond, ◌&&◌, eqb, ltb, length, set, Some, sym, ap, ◌∙◌, arith}
+use Rattle.std.proofs.Common.{◌≡◌, ℕ, length, set, Some, sym, ap, ◌∙◌, arith}
 use Rattle.std.proofs.lemmas.Bool.{and_from, lt-ltb, eq-eqb}
-use Rattle.ring.specs.Span.{Span, spot, free_at, longer, rung}
+use Rattle.ring.specs.Span.{Span, spot, free_at, rung}
 use Rattle.ring.specs.Items.{span_of}
 use Rattle.ring.proofs.Spans.{below_some, rung_longer}
 use Rattle.ring.proofs.ring.Ring.push.Goals as goal
