@@ -15,17 +15,17 @@ goes s low after e last =
     subst (λ (l : List Record). Passed s.puts ((s.puts + 1) % 65536) low refl (map content s.slots) (items s.ring s.records) l) (sym (ap (rung s.records) e ∙ released))
     (passed_goes s.puts ((s.puts + 1) % 65536) low refl (map content s.slots) (items s.ring s.records) s.young (sym last))
 
-pub invariant-of-self : goal.invariant-of-self
-invariant-of-self c =
+pub invariant_of-self : goal.invariant_of-self
+invariant_of-self c =
     let s = c.args.self.now in
     let p = goes s s.low (span_of c.release.new.self) c.release.ensures.after c.if-expired.ensures in
-    (s.places, (s.wide, (s.slotted, (s.single, (omega arith, (p.young, tt))))))
+    record { places = s.places; wide = s.wide; slotted = s.slotted; single = s.single; low = omega arith; young = p.young }
 
-pub invariant-of-self-else-expired : goal.invariant-of-self-else-expired
-invariant-of-self-else-expired c =
+pub invariant_of-self-else-expired : goal.invariant_of-self-else-expired
+invariant_of-self-else-expired c =
     let s = c.args.self.now in
     let p = passed_stay s.puts ((s.puts + 1) % 65536) s.low refl (map content s.slots) (items s.ring s.records) s.young (sym c.if-expired.ensures) in
-    (s.places, (s.wide, (s.slotted, (s.single, (omega arith, (p.young, tt))))))
+    record { places = s.places; wide = s.wide; slotted = s.slotted; single = s.single; low = omega arith; young = p.young }
 
 pub returns-then-expired : goal.returns-then-expired
 returns-then-expired c =

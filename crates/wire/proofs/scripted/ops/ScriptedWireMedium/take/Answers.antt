@@ -8,19 +8,19 @@ use Rattle.wire.proofs.Reading.{none_given, none_filled}
 use Rattle.wire.specs.Scripting.{given_none, none_choice, given_choice, take_by, left_none, left_stays, left_leaves}
 use Rattle.wire.proofs.scripted.ops.ScriptedWireMedium.take.Goals as goal
 
-pub returns-in-err-at : goal.returns-in-err-at
-returns-in-err-at c =
+pub returns-in_err-at : goal.returns-in_err-at
+returns-in_err-at c =
     let r : Row = row_of c.args.self.now in
     let side = c.args.side in
-    let e = c.in-err-at.ensures in
+    let e = c.in_err-at.ensures in
     let none = sym e.answer in
     record {
       rule = record {
         short = λ l. absurd (omega arith);
-        gives = λ _. none_given c.from-residual.result _ c.from-residual.ensures ∙ sym (given_none side r (none_choice side r none));
+        gives = λ _. none_given c.from_residual.result _ c.from_residual.ensures ∙ sym (given_none side r (none_choice side r none));
         leaves = λ _. take_by side r (row_of c.choose.new.self) (left_none side r none _ e.frames) e.script;
       };
-      place = none_filled c.from-residual.result _ c.from-residual.ensures;
+      place = none_filled c.from_residual.result _ c.from_residual.ensures;
     }
 
 -- The frame that was chosen is the rule's.
@@ -31,9 +31,9 @@ pub returns-then-not-stays : goal.returns-then-not-stays
 returns-then-not-stays c =
     let r : Row = row_of c.args.self.now in
     let side = c.args.side in
-    let at = c.in-ok-at.at in
-    let b = c.in-ok-at.stays in
-    let e = c.in-ok-at.ensures in
+    let at = c.in_ok-at.at in
+    let b = c.in_ok-at.stays in
+    let e = c.in_ok-at.ensures in
     let after : Row = record { frames = held c.remove.new.self; script = script_left c.choose.new.self.script } in
     record {
       rule = record {
@@ -48,9 +48,9 @@ pub returns-else-not-stays : goal.returns-else-not-stays
 returns-else-not-stays c =
     let r : Row = row_of c.args.self.now in
     let side = c.args.side in
-    let at = c.in-ok-at.at in
-    let b = c.in-ok-at.stays in
-    let e = c.in-ok-at.ensures in
+    let at = c.in_ok-at.at in
+    let b = c.in_ok-at.stays in
+    let e = c.in_ok-at.ensures in
     record {
       rule = record {
         short = λ l. absurd (omega arith);
