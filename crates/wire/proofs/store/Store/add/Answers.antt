@@ -1,13 +1,13 @@
-use Rattle.std.proofs.Common.{◌≡◌, ℕ, ◌<◌, ◌≤◌, Bool, true, cond, ltb, List, [], ◌∷◌, ◌++◌, map, length, set, Some, None, sym, refl, ap, ◌∙◌, subst, arith}
+use Rattle.std.proofs.Common.{◌≡◌, ℕ, ◌<◌, ◌≤◌, [], ◌∷◌, ◌++◌, map, length, set, sym, ap, ◌∙◌, arith}
 use Rattle.std.proofs.lemmas.List.{length-set, length-map}
 use Rattle.std.proofs.lemmas.Bool.{le-ltb, cond-false}
-use Rattle.ring.specs.Span.{Span, spot, free_at, longer, rung}
+use Rattle.ring.specs.Span.{Span, spot, rung}
 use Rattle.ring.specs.Items.{span_of, items}
 use Rattle.ring.proofs.Spans.{above_none, length_rung}
 use Rattle.medium.specs.Waiting.{Waiting, fresh}
 use Rattle.wire.specs.Content.{content}
 use Rattle.wire.specs.Records.{falling, waiting_as}
-use Rattle.wire.specs.Frames.{held, added}
+use Rattle.wire.specs.Frames.{held}
 use Rattle.wire.proofs.Adding as adding
 use Rattle.wire.proofs.store.Store.add.Goals as goal
 

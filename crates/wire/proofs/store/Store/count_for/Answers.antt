@@ -1,9 +1,9 @@
-use Rattle.std.proofs.Common.{◌≡◌, ◌<◌, ◌≤◌, List, length, drop, sym, ap, ◌∙◌, arith}
+use Rattle.std.proofs.Common.{◌<◌, ◌≤◌, List, length, sym, ap, ◌∙◌, arith}
 use Rattle.std.proofs.lemmas.List.{drop_all}
 use Rattle.medium.specs.Waiting.{Waiting}
 use Rattle.wire.specs.Choice.{for_side}
 use Rattle.wire.specs.Frames.{held}
-use Rattle.wire.specs.Choosing.{count_one, count_none}
+use Rattle.wire.proofs.Choosing.{count_one, count_none}
 use Rattle.wire.proofs.store.Store.count_for.Goals as goal
 use Rattle.wire.proofs.store.Store.count_for.Goals.{then-waits_for, else-waits_for}
 

@@ -1,9 +1,8 @@
-use Rattle.std.proofs.Common.{◌≡◌, ℕ, suc, ◌+◌, ◌-◌, ◌<◌, ◌≤◌, List, length, drop, sym, ap, ◌∙◌, subst, arith}
+use Rattle.std.proofs.Common.{◌≡◌, ℕ, suc, ◌+◌, ◌-◌, ◌<◌, ◌≤◌, length, drop, sym, ap, ◌∙◌, subst, arith}
 use Rattle.std.proofs.lemmas.List.{drop_all}
-use Rattle.medium.specs.Waiting.{Waiting}
 use Rattle.wire.specs.Choice.{distance}
 use Rattle.wire.specs.Frames.{held}
-use Rattle.wire.specs.Choosing.{distance_here, distance_less, distance_past}
+use Rattle.wire.proofs.Choosing.{distance_here, distance_less, distance_past}
 use Rattle.wire.proofs.store.Store.find.Goals as goal
 use Rattle.wire.proofs.store.Store.find.Goals.{then-waits_for+else-left-eq0, else-waits_for}
 

@@ -1,7 +1,6 @@
-use Rattle.std.proofs.Common.{◌≡◌, List, map, length, refl, ap, ◌∙◌, arith}
+use Rattle.std.proofs.Common.{◌≡◌, length, refl, ap, arith}
 use Rattle.ring.specs.Span.{Span, rung}
-use Rattle.medium.specs.Waiting.{Waiting}
-use Rattle.wire.specs.Records.{falling, waiting_as}
+use Rattle.wire.specs.Records.{falling}
 use Rattle.wire.proofs.Naming.{numbered_slotted, numbered_single}
 use Rattle.wire.proofs.store.Store.new.Goals as goal
 

@@ -1,11 +1,11 @@
-use Rattle.std.proofs.Common.{◌≡◌, ℕ, ◌+◌, ◌%◌, ◌<◌, true, false, List, map, drop, sym, refl, ap, ◌∙◌, subst, arith}
+use Rattle.std.proofs.Common.{◌≡◌, ◌+◌, ◌%◌, ◌<◌, true, List, map, sym, refl, ap, ◌∙◌, subst, arith}
 use Rattle.ring.specs.Span.{Span, rung}
 use Rattle.ring.specs.Items.{span_of, items}
 use Rattle.ring.proofs.Spans.{rung_released}
 use Rattle.wire.specs.Content.{content}
 use Rattle.wire.specs.declared.record.Record.{Record}
 use Rattle.wire.specs.declared.store.Store.{Store}
-use Rattle.wire.specs.Ageing.{Passed, passed_stay, passed_goes}
+use Rattle.wire.proofs.Ageing.{Passed, passed_stay, passed_goes}
 use Rattle.wire.proofs.store.Store.pass.Goals as goal
 
 -- The oldest frame is gone: what the ring then holds are the others.

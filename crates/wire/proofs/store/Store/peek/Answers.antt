@@ -1,6 +1,5 @@
 use Rattle.std.proofs.Common.{◌≡◌, ℕ, List, [], map, get_or, Some, None, sym, ap, ◌∙◌, arith}
 use Rattle.std.specs.Option.{option_map}
-use Rattle.medium.specs.Waiting.{Waiting}
 use Rattle.wire.specs.Content.{content}
 use Rattle.wire.specs.Seen.{seen}
 use Rattle.wire.specs.declared.slot.Slot.{Slot}

@@ -1,4 +1,4 @@
-use Rattle.std.proofs.Common.{◌≡◌, List}
+use Rattle.std.proofs.Common.{List}
 use Rattle.ring.specs.Items.{span_of}
 use Rattle.wire.specs.declared.record.Record.{Record}
 use Rattle.wire.proofs.Removing as removing

@@ -1,4 +1,4 @@
-use Rattle.std.proofs.Common.{◌≡◌, length, sym, ap, ◌∙◌}
+use Rattle.std.proofs.Common.{length, sym, ap, ◌∙◌}
 use Rattle.medium.specs.declared.side.Side.{Side}
 use Rattle.medium.specs.declared.side.Side.TheVariants.{Left, Right}
 use Rattle.wire.specs.Frames.{held}

@@ -1,11 +1,11 @@
-use Rattle.std.proofs.Common.{◌≡◌, ℕ, Bool, List, Some, Option, sym, refl, ap, ◌∙◌, arith}
+use Rattle.std.proofs.Common.{◌≡◌, ℕ, Bool, List, Some, Option, sym, ap, ◌∙◌, arith}
 use Rattle.std.specs.List.{remove}
 use Rattle.medium.specs.Waiting.{Waiting}
 use Rattle.medium.specs.declared.side.Side.{Side}
 use Rattle.wire.specs.Frames.{held, frame_at}
 use Rattle.wire.specs.Scripted.{Row, row_of, script_left, choice, given_chosen}
 use Rattle.wire.proofs.Reading.{none_given, none_filled}
-use Rattle.wire.specs.Scripting.{given_none, none_choice, given_choice, take_by, left_none, left_stays, left_leaves}
+use Rattle.wire.proofs.Scripting.{given_none, none_choice, given_choice, take_by, left_none, left_stays, left_leaves}
 use Rattle.wire.proofs.scripted.ops.ScriptedWireMedium.take.Goals as goal
 
 pub returns-in_err-at : goal.returns-in_err-at
