@@ -1,7 +1,6 @@
 -- The scripted wire: a take by the changes to store and script.
-use Rattle.std.specs.Prelude.{◌≡◌, ℕ, ◌%◌, ◌<◌, ◌≤◌, Bool, true, false, List, length, drop, Some, None, Option, nat_le, refl}
+use Rattle.std.specs.Prelude.{◌≡◌, ℕ, ◌%◌, ◌<◌, ◌≤◌, Bool, true, false, List, length, Some, None, Option, nat_le, refl}
 use Rattle.std.proofs.Common.{sym, ◌∙◌, ap, ⊎_elim, mod-lt, arith}
-use Rattle.std.proofs.lemmas.List.{nil_from_length}
 use Rattle.std.proofs.lemmas.Bool.{cases_lt, cond-true, cond-false, eq-eqb, ne_eqb}
 use Rattle.std.specs.List.{remove}
 use Rattle.medium.specs.Waiting.{Waiting}
@@ -18,15 +17,6 @@ module _ (side : Side) (r : Row) where
 
   pub choice_none : few ≡ 0 → choice side r ≡ None
   choice_none e = cond-true _ None _ (eq-eqb few 0 e)
-
-  pub behind_none : few ≡ 0 → script_behind side r ≡ r.script
-  behind_none e = ap (λ (n : ℕ). drop n r.script) (cond-true _ 0 1 (eq-eqb few 0 e))
-
-  pub given_none : few ≡ 0 → given_chosen side r ≡ None
-  given_none e = ap (λ (ws : List Waiting). frame_at ws (chosen side r)) (nil_from_length _ e)
-
-  pub behind_some : 0 < few → script_behind side r ≡ drop 1 r.script
-  behind_some l = ap (λ (n : ℕ). drop n r.script) (cond-false _ 0 1 (ne_eqb few 0 (λ z. omega arith)))
 
   pub choice_some : 0 < few → (at : ℕ) (b : Bool) → at ≡ distance side (chosen side r) r.frames → b ≡ nat_le 128 (next_byte r.script) → choice side r ≡ Some (at, b)
   choice_some l at b e d =
@@ -46,21 +36,11 @@ module _ (side : Side) (r : Row) where
       none : few ≤ 0 → frame_at r.frames at ≡ given_chosen side r
       none l = let h : few ≡ 0 = omega arith in let f = sym (choice_none h) ∙ e in let z : ◌≡◌ {A = ℕ} 0 1 = cc in absurd (omega arith)
 
-  -- No choice means that nothing waits for the side.
-  pub none_choice : choice side r ≡ None → few ≡ 0
-  none_choice e = ⊎_elim some (λ l. omega arith) (cases_lt 0 few)
-    where
-      some : 0 < few → few ≡ 0
-      some l = let f = sym (choice_some l _ _ refl refl) ∙ e in let z : ◌≡◌ {A = ℕ} 0 1 = cc in absurd (omega arith)
-
   -- A take by its choice.
   pub take_by : (after : Row) → after.frames ≡ left_by (choice side r) r.frames → after.script ≡ script_behind side r → after ≡ take_chosen side r
   take_by after e d =
       ap (λ (ws : List Waiting). record { frames = ws; script = after.script }) e
       ∙ ap (λ (bs : List ℕ). record { frames = left_by (choice side r) r.frames; script = bs }) d
-
-  pub left_none : choice side r ≡ None → (ws : List Waiting) → ws ≡ r.frames → ws ≡ left_by (choice side r) r.frames
-  left_none e ws h = h ∙ sym (ap (λ (o : Option (ℕ × Bool)). left_by o r.frames) e)
 
   pub left_stays : (at : ℕ) (b : Bool) → choice side r ≡ Some (at, b) → b ≡ true → (ws : List Waiting) → ws ≡ r.frames → ws ≡ left_by (choice side r) r.frames
   left_stays at b e t ws h = h ∙ sym (ap (λ (o : Option (ℕ × Bool)). left_by o r.frames) e ∙ cond-true b r.frames _ t)

@@ -1,7 +1,4 @@
-use Rattle.std.proofs.Common.{◌<◌, ◌≤◌, List, length, sym, ap, ◌∙◌, arith}
-use Rattle.std.proofs.lemmas.List.{drop_all}
-use Rattle.medium.specs.Waiting.{Waiting}
-use Rattle.wire.specs.Choice.{for_side}
+use Rattle.std.proofs.Common.{◌<◌, length, sym, ◌∙◌, arith}
 use Rattle.wire.specs.Frames.{held}
 use Rattle.wire.proofs.Choosing.{count_one, count_none}
 use Rattle.wire.proofs.store.Store.count_for.Goals as goal
@@ -17,11 +14,3 @@ loop-i-preserved c =
       | then-waits_for w ↦ (let n = w.count-is in let h = count_one c.args.side ws i within (sym w.if-waits_for.true ∙ c.waits_for.ensures) in (omega arith, omega arith))
       | else-waits_for w ↦ (let n = w.count-is in let h = count_none c.args.side ws i within (sym w.if-waits_for.false ∙ c.waits_for.ensures) in (omega arith, omega arith))
     ]
-
-pub returns : goal.returns
-returns c =
-    let ws = held c.args.self.now in
-    let past : length ws ≤ c.loop-i.i = omega arith in
-    let none = ap (λ (l : List Waiting). length (for_side c.args.side l)) (drop_all c.loop-i.i ws past) in
-    let inv = c.loop-i.invariant.1 in
-    omega arith

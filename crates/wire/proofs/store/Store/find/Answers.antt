@@ -1,5 +1,4 @@
-use Rattle.std.proofs.Common.{◌≡◌, ℕ, suc, ◌+◌, ◌-◌, ◌<◌, ◌≤◌, length, drop, sym, ap, ◌∙◌, subst, arith}
-use Rattle.std.proofs.lemmas.List.{drop_all}
+use Rattle.std.proofs.Common.{◌≡◌, ℕ, suc, ◌+◌, ◌-◌, ◌<◌, length, drop, sym, ap, ◌∙◌, subst, arith}
 use Rattle.wire.specs.Choice.{distance}
 use Rattle.wire.specs.Frames.{held}
 use Rattle.wire.proofs.Choosing.{distance_here, distance_less, distance_past}
@@ -33,14 +32,3 @@ loop-i-preserved c =
           let now : i + 1 + distance s k (drop (i + 1) ws) ≡ distance s c.args.k ws = omega arith in
           subst (λ (n : ℕ). i + 1 + distance s n (drop (i + 1) ws) ≡ distance s c.args.k ws) (sym w.left-is) now)
     ]
-
-pub returns : goal.returns
-returns c =
-    let ws = held c.args.self.now in
-    let i = c.loop-i.i in
-    let s = c.args.side in
-    let past : length ws ≤ i = omega arith in
-    let none : distance s c.loop-i.left (drop i ws) ≡ 0 = ap (distance s c.loop-i.left) (drop_all i ws past) in
-    let inv : i + distance s c.loop-i.left (drop i ws) ≡ distance s c.args.k ws = c.loop-i.invariant in
-    let end = c.loop-i.auto.i-end in
-    omega arith

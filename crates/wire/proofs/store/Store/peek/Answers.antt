@@ -1,14 +1,8 @@
-use Rattle.std.proofs.Common.{◌≡◌, ℕ, List, [], map, get_or, Some, None, sym, ap, ◌∙◌, arith}
-use Rattle.std.specs.Option.{option_map}
+use Rattle.std.proofs.Common.{◌≡◌, ℕ, List, [], map, get_or, Some, sym, ap, ◌∙◌, arith}
 use Rattle.wire.specs.Content.{content}
-use Rattle.wire.specs.Seen.{seen}
 use Rattle.wire.specs.declared.slot.Slot.{Slot}
 use Rattle.wire.proofs.Reading.{slot_within, held_at, bytes_at}
 use Rattle.wire.proofs.store.Store.peek.Goals as goal
-
-pub returns-in_err-record : goal.returns-in_err-record
-returns-in_err-record c =
-    ap (option_map seen) c.from_residual.ensures ∙ sym (held_at c.args.self.now c.args.distance None c.in_err-record.ensures)
 
 pub listed : goal.listed
 listed c =
