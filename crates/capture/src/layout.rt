@@ -9,14 +9,20 @@ pub(crate) fn fixed_header() -> [u8; 24]
     ensures { result ≡ file_header }
 {
     [
-        0xa1, // the magic number
-        0xb2, 0xc3, 0xd4, 0x00, // version 2
-        0x02, 0x00, // point 4
-        0x04, 0x00, // no time zone
-        0x00, 0x00, 0x00, 0x00, // nothing on how exact the stamps are
-        0x00, 0x00, 0x00, 0x00, // the longest packet
-        0x00, 0xff, 0xff, 0x00, // Ethernet
-        0x00, 0x00, 0x01,
+        // the magic number
+        0xa1, 0xb2, 0xc3, 0xd4,
+        // version 2
+        0x00, 0x02,
+        // point 4
+        0x00, 0x04,
+        // no time zone
+        0x00, 0x00, 0x00, 0x00,
+        // nothing on how exact the stamps are
+        0x00, 0x00, 0x00, 0x00,
+        // the longest packet
+        0x00, 0x00, 0xff, 0xff,
+        // Ethernet
+        0x00, 0x00, 0x00, 0x01,
     ]
 }
 
@@ -28,11 +34,14 @@ pub(crate) fn record_header(number: u64, len: u16) -> [u8; 16]
     let [u0, u1, u2, u3] = ((number % 1_000_000) as u32).to_be_bytes();
     let [l0, l1, l2, l3] = (14 + u32::from(len)).to_be_bytes();
     [
-        s0, // seconds
-        s1, s2, s3, u0, // microseconds
-        u1, u2, u3, l0, // the length that is kept
-        l1, l2, l3, l0, // the length that it had
-        l1, l2, l3,
+        // seconds
+        s0, s1, s2, s3,
+        // microseconds
+        u0, u1, u2, u3,
+        // the length that is kept
+        l0, l1, l2, l3,
+        // the length that it had
+        l0, l1, l2, l3,
     ]
 }
 

@@ -12,6 +12,8 @@
 //! 02 00 00 00 00 0b  02 00 00 00 00 0a  89 11                                     and the packet's header
 //! 40 00 00 04                                                                     the frame
 //! ```
+#![tactic(auto)]
+
 mod headers;
 mod layout;
 

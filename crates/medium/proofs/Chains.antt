@@ -1,5 +1,5 @@
 -- What every medium makes of a row of frames.
-use Rattle.std.proofs.Common.{◌≡◌, ℕ, suc, ◌+◌, ◌-◌, ◌<◌, ◌≤◌, leb, List, [], ◌∷◌, map, length, get_or, drop, Option, sym, refl, ap, ◌∙◌, subst, inl, inr, add-one, arith, drop-cons}
+use Rattle.std.proofs.Common.{◌≡◌, ℕ, suc, ◌+◌, ◌-◌, ◌≤◌, leb, List, [], ◌∷◌, map, length, get_or, drop, Option, sym, refl, ap, ◌∙◌, subst, inl, inr, arith}
 use mathlib.Core.List.{Memᴰ}
 use Rattle.std.proofs.lemmas.List.{drop_all}
 use Rattle.std.proofs.lemmas.Bool.{cond_both, leb-true, leb-false}
@@ -12,16 +12,6 @@ module _ {S X : Type 0} (puts : S → Side → List ℕ → S → Type 0) (from 
   -- The frames from the i-th on lead from before to after.
   abbrev pub PutsFrom : ℕ → (before after : S) → Type 0
   PutsFrom i before after = Puts puts from (map bytes (drop i xs)) before after
-
-  -- The i-th frame, and then those behind it, are the frames from the i-th on.
-  abbrev pub StepsBack : Type 0
-  StepsBack = (i : ℕ) (d : X) (m next n : S) → i < length xs → puts m from (bytes (get_or xs i d)) next → PutsFrom (i + 1) next n → PutsFrom i m n
-
-  -- The list from the i-th on begins with the i-th.
-  pub steps_back : StepsBack
-  steps_back i d m next n h p rest =
-      let P : List X → Type 0 = λ l. Puts puts from (map bytes l) m n in
-      subst P (sym (drop-cons xs i d h)) (next, p, rw add-one at rest)
 
   -- With no frame left, all have led there.
   pub puts_all : (i : ℕ) (start m : S) → length xs ≤ i → ((n : S) → PutsFrom i m n → PutsFrom 0 start n) → PutsFrom 0 start m

@@ -1,8 +1,8 @@
 //! The smallest medium: a line that is cut.
 ghost use Rattle.medium.specs.Lossy.{Begins, waiting_in, Loses, GivesNone};
-ghost use Rattle.std.specs.Prelude.{◌≡◌, ℕ};
 ghost use mathlib.Core.List.Memᴰ;
-ghost use Rattle.std.proofs.Common.{arith};
+ghost use Rattle.std.proofs.Common.{sym};
+ghost use Rattle.std.proofs.lemmas.Option.{none-some};
 
 use crate::interface::Medium;
 use crate::side::Side;
@@ -29,11 +29,12 @@ impl Medium for Lossy {
 
     ghost takes = { GivesNone };
 
+    // Where nothing waits and nothing comes out, every law has nothing to show.
     ghost lawful = { record {
       starts_empty = λ m begins. begins;
       put_ages = λ m from frame n put short x waits. absurd (Memᴰ.not-nil waits);
       put_long = λ m from frame n put long. put;
-      take_due = λ m side room frame n took. absurd (let none = took.0 in let z : ◌≡◌ {A = ℕ} 0 1 = cc in omega arith);
+      take_due = λ m side room frame n took. absurd (none-some frame (sym took.0));
       take_keeps = λ m side room r n took x waits. waits;
       take_short = λ m side room r n took short. took;
     } };

@@ -1,12 +1,12 @@
 -- An element that is swapped forward, step by step.
-use Rattle.std.proofs.Common.{◌≡◌, ℕ, zero, suc, ◌+◌, ◌-◌, ◌<◌, ◌≤◌, Bool, true, false, cond, ◌&&◌, ◌≢◌, List, [], ◌∷◌, ◌++◌, length, get_or, sym, refl, ap, ◌∙◌, subst, ⊎_elim, arith}
+use Rattle.std.proofs.Common.{◌≡◌, ℕ, zero, suc, ◌+◌, ◌-◌, ◌<◌, ◌≤◌, Bool, true, cond, ◌&&◌, ◌≢◌, List, length, get_or, sym, ap, ◌∙◌, ⊎_elim, arith}
 use Rattle.std.proofs.lemmas.List.Edits.{swapped_from_swap, length-swap, length-remove, get_or-remove_below, get_or-remove_above}
 use Rattle.std.proofs.lemmas.List.{same_lists, get_or_default}
-use Rattle.std.proofs.lemmas.List.Sorted.{IsPermutation-refl, IsPermutation-swap, IsPermutation-trans}
+use Rattle.std.proofs.lemmas.List.Sorted.{IsPermutation-swap, IsPermutation-trans}
 use Rattle.std.proofs.lemmas.Bool.{cases_lt, cases_eq, cond-true, and_from, eq-eqb, lt-ltb}
-use Rattle.std.specs.List.{swap, remove}
+use Rattle.std.specs.List.{swap}
 use Rattle.std.specs.List.Sorted.{IsPermutation}
-use Rattle.ring.specs.Span.{spot, rung}
+use Rattle.ring.specs.Span.{spot}
 use Rattle.ring.specs.Items.{span_of, items, holds, brought}
 use Rattle.ring.specs.declared.ring.Ring.{Ring}
 use Rattle.ring.proofs.Spans.{length_rung}
@@ -20,17 +20,6 @@ pub record Moved {X : Type 0} (old now : List X) (i k : ℕ) : Type 0 where
   pub here : (d : X) → get_or now k d ≡ get_or old i d
   pub between : (m : ℕ) (d : X) → k ≤ m → m < i → get_or now (m + 1) d ≡ get_or old m d
   pub behind : (m : ℕ) (d : X) → i < m → get_or now m d ≡ get_or old m d
-
-pub moved_none : {X : Type 0} (xs : List X) (i : ℕ) → i < length xs → Moved xs xs i i
-moved_none xs i l = record {
-  same = refl;
-  within = l;
-  forward = omega arith;
-  before = λ m d h. refl;
-  here = λ d. refl;
-  between = λ m d h k. absurd (omega arith);
-  behind = λ m d h. refl;
-}
 
 -- One step further.
 pub moved_more : {X : Type 0} (old now after : List X) (i k : ℕ) → Moved old now i k → 0 < k → after ≡ swap now (k - 1) k → Moved old after i (k - 1)
@@ -89,9 +78,6 @@ module _ {X : Type 0} (r : Ring) where
 
   pub holds_below : (xs : List X) (i : ℕ) → length xs ≡ 64 → i < r.count → holds r xs i ≡ true
   holds_below xs i l h = and_from _ _ (eq-eqb (length xs) 64 l) (lt-ltb i r.count h)
-
-  pub lifted_none : (xs : List X) (i : ℕ) → length xs ≡ 64 → i < r.count → Lifted r xs xs i i
-  lifted_none xs i l h = record { places = l; moved = moved_none (items r xs) i (let n = count_is xs l in omega arith); shuffled = IsPermutation-refl xs }
 
   pub lifted_more : (old now after : List X) (i k : ℕ) (b : Bool) → Lifted r old now i k → length old ≡ 64 → 0 < k → b ≡ (holds r now (k - 1) && holds r now k) → items r after ≡ cond b (swap (items r now) (k - 1) k) (items r now) → after ≡ cond b (swap now (spot (span_of r) (k - 1)) (spot (span_of r) k)) now → Lifted r old after i (k - 1)
   lifted_more old now after i k b v l some answer swapped places =

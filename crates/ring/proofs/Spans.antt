@@ -1,14 +1,10 @@
 -- What the answers of a ring's cursor say of the list that the ring stands for.
-use Rattle.std.proofs.Common.{◌≡◌, ℕ, zero, suc, ◌+◌, ◌-◌, ◌%◌, ◌<◌, ◌≤◌, Bool, true, false, cond, eqb, ltb, List, [], ◌∷◌, ◌++◌, length, get_or, drop, set, Some, None, Option, sym, refl, ap, ◌∙◌, inl, inr, ⊎_elim, arith}
+use Rattle.std.proofs.Common.{◌≡◌, ℕ, zero, suc, ◌+◌, ◌-◌, ◌<◌, ◌≤◌, Bool, cond, ltb, List, [], ◌∷◌, ◌++◌, length, get_or, drop, set, Some, None, sym, refl, ap, ◌∙◌, ⊎_elim, arith}
 use Rattle.std.proofs.lemmas.List.{nil_from_length}
-use Rattle.std.proofs.lemmas.Option.{slice_get-get_or, slice_get_past}
-use Rattle.std.proofs.lemmas.Bool.{cases_Bool, ltb-true, ltb-false, lt-ltb, le-ltb, eq-eqb, cases_lt, cond-true, and_from}
+use Rattle.std.proofs.lemmas.Bool.{cases_Bool, ltb-true, ltb-false, lt-ltb, le-ltb, cases_lt}
 use Rattle.std.specs.List.{slice_get, swap}
-use Rattle.std.specs.List as slices
 use Rattle.ring.specs.Span.{Span, spot, taken_at, free_at, longer, shorter, rung}
-use Rattle.ring.specs.Items.{span_of, element_at, holds}
-use Rattle.ring.specs.declared.ring.Ring.{Ring}
-use Rattle.ring.proofs.Rungs.{row, length_row, get_or_row, row_set, row_push, row_pop, row_swap}
+use Rattle.ring.proofs.Rungs.{row, length_row, row_set, row_push, row_pop, row_swap}
 
 -- A place is named exactly below a bound.
 pub below_some : (a b x y : ℕ) → Some y ≡ cond (ltb a b) (Some x) None → (a < b) × (y ≡ x)
@@ -28,17 +24,6 @@ above_none a b x e =
 module _ {X : Type 0} (xs : List X) (s : Span) (places : length xs ≡ 64) (start : s.head < 64) (few : s.count ≤ 64) where
   pub length_rung : length (rung xs s) ≡ s.count
   length_rung = length_row xs s.head s.count places start few
-
-  -- The element at a distance lies in the place of that distance.
-  pub nth_taken : (i at : ℕ) (x : X) → Some at ≡ taken_at s i → x ≡ get_or xs at x → slice_get (rung xs s) i ≡ Some x
-  nth_taken i at x e is =
-      let here = below_some i s.count (spot s i) at e in
-      let lt : i < length (rung xs s) = omega (arith, length_rung) in
-      slice_get-get_or (rung xs s) i x lt
-      ∙ ap Some (get_or_row xs s.head s.count places start few i x here.0 ∙ ap (λ (k : ℕ). get_or xs k x) (sym here.1) ∙ sym is)
-
-  pub nth_untaken : (i : ℕ) → None ≡ taken_at s i → slice_get (rung xs s) i ≡ None
-  nth_untaken i e = slice_get_past (rung xs s) i (omega (arith, length_rung, above_none i s.count (spot s i) e))
 
   pub rung_set : (i at : ℕ) (x : X) → Some at ≡ taken_at s i → rung (set xs at x) s ≡ set (rung xs s) i x
   rung_set i at x e =
@@ -88,16 +73,6 @@ module _ {X : Type 0} (xs : List X) (s : Span) (places : length xs ≡ 64) (star
           let nil : rung xs s ≡ [] = nil_from_length (rung xs s) (omega (arith, length_rung)) in
           ap (λ (b : Bool). rung xs (cond b (record { head = spot s 1; count = s.count - 1 }) s)) (le-ltb 0 s.count le) ∙ nil ∙ sym (ap (drop 1) nil)
 
-module _ {X : Type 0} (r : Ring) (xs : List X) (long : length xs ≡ 64) where
-  pub at_taken : (i at : ℕ) (x : X) → Some at ≡ taken_at (span_of r) i → x ≡ get_or xs at x → element_at r xs i ≡ Some x
-  at_taken i at x e is = cond-true _ _ None (eq-eqb (length xs) 64 long) ∙ nth_taken xs (span_of r) long r.start r.few i at x e is
-
-  pub at_untaken : (i : ℕ) → None ≡ taken_at (span_of r) i → element_at r xs i ≡ None
-  at_untaken i e = cond-true _ _ None (eq-eqb (length xs) 64 long) ∙ nth_untaken xs (span_of r) long r.start r.few i e
-
-  pub holds_taken : (i at : ℕ) → Some at ≡ taken_at (span_of r) i → holds r xs i ≡ true
-  holds_taken i at e = and_from _ _ (eq-eqb (length xs) 64 long) (lt-ltb i r.count (below_some i r.count (spot (span_of r) i) at e).0)
-
 -- A write at one distance is not seen at another.
 pub nth_set_other : {X : Type 0} (xs : List X) (i k : ℕ) (x : X) → (k ≡ i → ⊥) → slice_get (set xs i x) k ≡ slice_get xs k
 nth_set_other [] i k x ne = refl
@@ -105,8 +80,3 @@ nth_set_other (y ∷ xs) zero zero x ne = absurd (ne refl)
 nth_set_other (y ∷ xs) zero (suc k) x ne = refl
 nth_set_other (y ∷ xs) (suc i) zero x ne = refl
 nth_set_other (y ∷ xs) (suc i) (suc k) x ne = nth_set_other xs i k x (λ e. ne (ap suc e))
-
--- A slice's swap is that of a list.
-pub swapped_is : {X : Type 0} (xs : List X) (i j : ℕ) → slices.swap xs i j ≡ swap xs i j
-swapped_is [] i j = refl
-swapped_is (x ∷ xs) i j = refl

@@ -2,6 +2,8 @@
 //! `Ring` knows where the oldest element lies and how many there are; the places are a slice that its owner keeps beside it
 //! and passes at each call. So an owner can fill a place where it lies (`claim`, `place`), or have elements copied (`push`,
 //! `get`, `set`, `pop`).
+#![tactic(auto)]
+
 mod kinds;
 mod ring;
 

@@ -1,10 +1,10 @@
 -- What a new record in a free place adds to the frames of a store.
-use Rattle.std.proofs.Common.{◌≡◌, ℕ, zero, suc, ◌+◌, ◌-◌, ◌%◌, ◌<◌, ◌≤◌, Bool, true, cond, ltb, ◌≢◌, List, [], ◌∷◌, ◌++◌, map, length, get_or, take, drop, set, Some, sym, refl, ap, ◌∙◌, subst, arith}
+use Rattle.std.proofs.Common.{◌≡◌, ℕ, suc, ◌<◌, Bool, true, cond, ◌≢◌, List, [], ◌∷◌, ◌++◌, map, length, get_or, take, drop, set, Some, sym, refl, ap, ◌∙◌, subst, arith}
 use Rattle.std.proofs.lemmas.List.{get_or-map, get_or-set_same, get_or-set_other, length-map, map_push, map-append, take-map, drop-map}
 use Rattle.std.proofs.lemmas.Bool.{lt-ltb}
 use Rattle.ring.specs.Span.{Span, spot, free_at, longer, rung}
 use Rattle.ring.specs.Items.{span_of, items}
-use Rattle.ring.proofs.Rungs.{row, get_or_row, length_row}
+use Rattle.ring.proofs.Rungs.{get_or_row}
 use Rattle.ring.proofs.Spans.{below_some, length_rung, rung_longer}
 use Rattle.medium.specs.Waiting.{Waiting, fresh}
 use Rattle.medium.specs.declared.side.Side.{Side}
@@ -13,7 +13,8 @@ use Rattle.wire.specs.Records.{age_at, waiting_as, slots_named, Slotted, Single,
 use Rattle.wire.specs.Frames.{held, added}
 use Rattle.wire.specs.declared.record.Record.{Record}
 use Rattle.wire.specs.declared.store.Store.{Store}
-use Rattle.wire.specs.Ageing.{falling_is, is_falling, falling_push}
+use Rattle.wire.specs.Ageing.{falling_is}
+use Rattle.wire.proofs.Ageing.{is_falling, falling_push}
 use Rattle.wire.proofs.Naming.{slot_of, named_same}
 
 -- None of the records names a slot.

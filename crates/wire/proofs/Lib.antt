@@ -1,6 +1,11 @@
 pub mod Naming
+pub mod Ageing
 pub mod Adding
 pub mod Reading
 pub mod Removing
+pub mod Members
+pub mod Straightness
 pub mod Ordered
 pub mod InTime
+pub mod Choosing
+pub mod Scripting

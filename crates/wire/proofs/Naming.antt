@@ -1,12 +1,11 @@
 -- Which slots the records name.
-use Rattle.std.proofs.Common.{◌≡◌, ℕ, ◌+◌, ◌<◌, ◌≤◌, Bool, cond, eqb, ◌≢◌, List, [], ◌∷◌, map, length, get_or, set, sym, refl, ap, ◌∙◌, subst, inl, inr, ⊎_elim, arith, below_more}
+use Rattle.std.proofs.Common.{◌≡◌, ℕ, ◌+◌, ◌<◌, cond, eqb, ◌≢◌, List, [], ◌∷◌, map, length, get_or, set, sym, refl, ap, ◌∙◌, subst, ⊎_elim, arith, below_more}
 use Rattle.std.proofs.lemmas.List.Edits.{swapped_from_swap, length-swap}
 use Rattle.std.proofs.lemmas.List.{map-set, length-map, get_or-set_same, get_or-set_other, get_or_past, set-get_or, get_or-map}
 use Rattle.std.proofs.lemmas.List.Sorted.{IsPermutation-keeps}
 use Rattle.std.proofs.lemmas.Bool.{cases_lt, cases_eq, cond-true, cond-false, eq-eqb, ne_eqb}
 use Rattle.std.proofs.lemmas.Bool.Decides.{nat_tests}
 use Rattle.std.specs.List.{swap}
-use Rattle.std.specs.List as slices
 use Rattle.std.specs.List.Sorted.{IsPermutation}
 use Rattle.wire.specs.Records.{slots_named, Numbered, Slotted, Single}
 use Rattle.wire.specs.declared.record.Record.{Record}
@@ -63,7 +62,7 @@ get_or_exchanged ns i j k a b =
     (cases_eq k j))
     (cases_eq k i)
 
-map_exchanged : {X Y : Type 0} (f : X → Y) (xs : List X) (i j : ℕ) → i < length xs → j < length xs → map f (slices.swap xs i j) ≡ swap (map f xs) i j
+map_exchanged : {X Y : Type 0} (f : X → Y) (xs : List X) (i j : ℕ) → i < length xs → j < length xs → map f (swap xs i j) ≡ swap (map f xs) i j
 map_exchanged f [] i j a b = refl
 map_exchanged f (x ∷ xs) i j a b =
     map-set f (set (x ∷ xs) i (get_or (x ∷ xs) j x)) j (get_or (x ∷ xs) i x)
@@ -77,15 +76,15 @@ pub record Apart (rs : List Record) : Type 0 where
   pub slotted : Slotted (slots_named rs)
   pub single : Single (slots_named rs)
 
-apart_exchanged : (rs : List Record) (i j : ℕ) → i < length rs → j < length rs → Apart rs → Apart (slices.swap rs i j)
+apart_exchanged : (rs : List Record) (i j : ℕ) → i < length rs → j < length rs → Apart rs → Apart (swap rs i j)
 apart_exchanged rs i j a b v =
     let ns = slots_named rs in
     let n : length ns ≡ 64 = length-map rs slot_of ∙ v.places in
     let p = v.places in
-    let named : slots_named (slices.swap rs i j) ≡ swap ns i j = map_exchanged slot_of rs i j a b in
-    let at : (k : ℕ) → get_or (slots_named (slices.swap rs i j)) k 0 ≡ get_or ns (source i j k) 0 = λ k. ap (λ (l : List ℕ). get_or l k 0) named ∙ get_or_exchanged ns i j k (omega arith) (omega arith) in
+    let named : slots_named (swap rs i j) ≡ swap ns i j = map_exchanged slot_of rs i j a b in
+    let at : (k : ℕ) → get_or (slots_named (swap rs i j)) k 0 ≡ get_or ns (source i j k) 0 = λ k. ap (λ (l : List ℕ). get_or l k 0) named ∙ get_or_exchanged ns i j k (omega arith) (omega arith) in
     record {
-      places = sym (length-map (slices.swap rs i j) slot_of) ∙ ap length named ∙ length-swap ns i j ∙ n;
+      places = sym (length-map (swap rs i j) slot_of) ∙ ap length named ∙ length-swap ns i j ∙ n;
       slotted = λ k. subst (λ (m : ℕ). m < 64) (sym (at k)) (v.slotted (source i j k));
       single = λ k l h.
           sym (source_source i j k)

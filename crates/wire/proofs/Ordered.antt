@@ -10,15 +10,12 @@ use Rattle.wire.specs.Frames.{older, added, frame_at}
 use Rattle.wire.specs.Choice.{same_side}
 use Rattle.wire.specs.Order.{Step, frames_for, AllStay, NoneAgesOut, Went, finds_room, entered, came_out, InOrder}
 use Rattle.wire.specs.Order.Step.{put, took}
-use Rattle.wire.specs.Straight.{Queues, queue, to, queues_of, StraightPut, StraightTake}
+use Rattle.wire.specs.Straight.{Queues, queue, queues_of, StraightPut, StraightTake}
 use Rattle.wire.specs.declared.straight.StraightWire.{StraightWire}
 use Rattle.wire.proofs.InTime.{put_queue, take_queue, all_young}
 
 abbrev bytes_of : List Waiting → List (List ℕ)
 bytes_of ws = map (λ x. x.bytes) ws
-
-pub as_many : (side : Side) (ws : List Waiting) → length (bytes_of (map (to side) ws)) ≡ length ws
-as_many side ws = length-map (map (to side) ws) (λ x. x.bytes) ∙ length-map ws (to side)
 
 -- One frame more, if it finds room.
 abbrev grown : Bool → List ℕ → List (List ℕ) → List (List ℕ)

@@ -1,13 +1,13 @@
 -- What a store reads at a distance from the oldest.
-use Rattle.std.proofs.Common.{◌≡◌, ℕ, zero, suc, ◌<◌, ◌≤◌, Bool, true, cond, List, [], ◌∷◌, ◌++◌, map, length, get_or, take, drop, Some, None, Option, sym, refl, ap, ◌∙◌, subst, ⊎_elim, arith}
-use Rattle.std.proofs.lemmas.List.{length-map, get_or_past, get_or-map, take_at, drop_at}
+use Rattle.std.proofs.Common.{◌≡◌, ℕ, zero, suc, ◌<◌, List, [], ◌∷◌, ◌++◌, map, length, get_or, take, drop, Some, None, Option, sym, refl, ap, ◌∙◌, ⊎_elim, arith}
+use Rattle.std.proofs.lemmas.List.{length-map, get_or_past, get_or-map, take_at}
 use Rattle.std.proofs.lemmas.Bool.{cases_lt, cond-true, eq-eqb}
 use Rattle.std.specs.List.{slice_get}
 use Rattle.std.specs.Option.{option_map}
 use Rattle.ring.specs.Span.{spot, rung}
 use Rattle.ring.specs.Items.{span_of, items, element_at}
 use Rattle.ring.proofs.Rungs.{get_or_row, length_row}
-use Rattle.medium.specs.Laws.{frame_given, Filled}
+use Rattle.medium.specs.Laws.{frame_given}
 use Rattle.medium.specs.Waiting.{Waiting}
 use Rattle.wire.specs.Content.{content}
 use Rattle.wire.specs.Records.{waiting_as, slots_named}
@@ -52,9 +52,6 @@ module _ (s : Store) where
   pub held_at : (i : ℕ) (o : Option Record) → o ≡ element_at s.ring rs i → slice_get (held s) i ≡ option_map (waiting_as s.puts (map content s.slots)) o
   held_at i o e = nth_map (waiting_as s.puts (map content s.slots)) (items s.ring rs) i ∙ ap (option_map (waiting_as s.puts (map content s.slots))) (sym (e ∙ at_is i))
 
-  pub frame_none : (i : ℕ) → None ≡ element_at s.ring rs i → frame_at (held s) i ≡ None
-  frame_none i e = ap (option_map (λ (w : Waiting). w.bytes)) (held_at i None e)
-
   -- The bytes of the frame are those in the slot of its record.
   pub bytes_at : (i : ℕ) (r : Record) (t : Slot) → Some r ≡ element_at s.ring rs i → t ≡ get_or s.slots r.slot t → get_or (map content s.slots) r.slot [] ≡ content t
   bytes_at i r t e is =
@@ -68,13 +65,3 @@ module _ (s : Store) where
 -- A frame laid at the front of a place.
 pub laid_given : (f before after : List ℕ) (n : ℕ) → n ≡ length f → after ≡ f ++ drop n before → frame_given (Some n) after ≡ Some f
 laid_given f before after n e a = ap Some (ap (take n) a ∙ take_at f (drop n before) n (sym e))
-
-pub laid_filled : (f before after : List ℕ) (n : ℕ) → n ≡ length f → n ≤ length before → after ≡ f ++ drop n before → Filled (Some n) before after
-laid_filled f before after n e l a = (l, ap (drop n) a ∙ drop_at f (drop n before) n (sym e))
-
--- No frame: the place stays as it is.
-pub none_given : (o : Option ℕ) (place : List ℕ) → o ≡ None → frame_given o place ≡ None
-none_given o place e = ap (λ (r : Option ℕ). frame_given r place) e
-
-pub none_filled : (o : Option ℕ) (place : List ℕ) → o ≡ None → Filled o place place
-none_filled o place e = subst (λ (r : Option ℕ). Filled r place place) (sym e) refl

@@ -1,6 +1,6 @@
 -- What a store holds once a frame was brought forward and released.
-use Rattle.std.proofs.Common.{◌≡◌, ℕ, zero, suc, ◌<◌, ◌≤◌, Bool, true, false, cond, List, [], ◌∷◌, ◌++◌, map, length, take, drop, sym, refl, ap, ◌∙◌, subst, ⊎_elim, arith}
-use Rattle.std.proofs.lemmas.List.{map-append, take-map, drop-map, length-map}
+use Rattle.std.proofs.Common.{◌≡◌, ℕ, zero, suc, ◌≤◌, Bool, true, false, cond, List, [], ◌∷◌, ◌++◌, map, length, take, drop, sym, refl, ap, ◌∙◌, ⊎_elim, arith}
+use Rattle.std.proofs.lemmas.List.{map-append, take-map, drop-map}
 use Rattle.std.proofs.lemmas.Bool.{cond-true, cond-false, and_cases, eq-eqb, ltb-false, both_ways}
 use Rattle.std.specs.List.{remove}
 use Rattle.std.specs.List.Sorted.{IsPermutation}
@@ -13,7 +13,8 @@ use Rattle.wire.specs.Records.{falling, waiting_as}
 use Rattle.wire.specs.Frames.{held}
 use Rattle.wire.specs.declared.record.Record.{Record}
 use Rattle.wire.specs.declared.store.Store.{Store}
-use Rattle.wire.specs.Ageing.{falling_is, is_falling, falling_removed}
+use Rattle.wire.specs.Ageing.{falling_is}
+use Rattle.wire.proofs.Ageing.{is_falling, falling_removed}
 use Rattle.wire.proofs.Naming.{Apart, apart_shuffled}
 
 pub map_removed : {X Y : Type 0} (f : X → Y) (xs : List X) (i : ℕ) → map f (remove xs i) ≡ remove (map f xs) i

@@ -1,6 +1,5 @@
 -- The frames for one side, among those for both.
 use Rattle.std.specs.Prelude.{ℕ, zero, suc, Bool, true, false, cond, List, [], ◌∷◌, Some, None, Option}
-use Rattle.std.specs.List.{slice_get}
 use Rattle.medium.specs.Waiting.{Waiting}
 use Rattle.medium.specs.declared.side.Side.{Side}
 use Rattle.medium.specs.declared.side.Side.TheVariants.{Left, Right}

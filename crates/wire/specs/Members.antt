@@ -1,6 +1,8 @@
 -- Which frames are in a list of waiting frames after a put or a take.
-use Rattle.std.specs.Prelude.{◌≡◌, ℕ, zero, suc, ◌+◌, ◌<◌, ◌≤◌, Bool, true, false, cond, ◌⊎◌, List, [], ◌∷◌, ◌++◌, map, length, drop, Some, None, Option, nat_lt, refl}
-use Rattle.std.proofs.Common.{sym, ◌∙◌, ap, subst, inl, inr, ⊎_elim, arith}
+use Rattle.std.specs.Prelude.{◌≡◌, ℕ, zero, suc, ◌+◌, ◌<◌, Bool, true, false, cond, ◌⊎◌, List, [], ◌∷◌, ◌++◌, map, length, drop, Some, nat_lt, refl}
+use Rattle.std.proofs.Common.{sym, subst, inl, inr, ⊎_elim}
+use Rattle.std.proofs.Math.Nat.{lt_trans}
+use Rattle.std.proofs.lemmas.Option.{none-some, same_Some}
 use mathlib.Core.List.Memᴰ
 use mathlib.Core.List.{Memᴰ}
 use Rattle.std.specs.List.{slice_get, remove}
@@ -11,9 +13,7 @@ use Rattle.wire.specs.Records.{age_at, waiting_as}
 use Rattle.wire.specs.declared.record.Record.{Record}
 use Rattle.wire.specs.declared.store.Store.{Store}
 use Rattle.wire.specs.Ageing.{Falling, falling_is}
-use Rattle.ring.specs.Items.{span_of, items}
-use Rattle.ring.proofs.Spans.{length_rung}
-use Rattle.std.proofs.lemmas.List.{length-map}
+use Rattle.ring.specs.Items.{items}
 
 -- x is one of the frames, one older.
 abbrev pub Older : List Waiting → Waiting → Type 0
@@ -51,8 +51,8 @@ in_rest [] x m = m
 in_rest (y ∷ xs) x m = Memᴰ.tail m
 
 pub in_nth : {X : Type 0} (xs : List X) (i : ℕ) (x : X) → slice_get xs i ≡ Some x → Memᴰ x xs
-in_nth [] i x e = let z : ◌≡◌ {A = ℕ} 0 1 = cc in absurd (omega arith)
-in_nth (y ∷ xs) zero x e = Memᴰ.head (let z : x ≡ y = cc in z)
+in_nth [] i x e = absurd (none-some x e)
+in_nth (y ∷ xs) zero x e = Memᴰ.head (sym (same_Some y x e))
 in_nth (y ∷ xs) (suc i) x e = Memᴰ.tail (in_nth xs i x e)
 
 pub in_map : {X Y : Type 0} (f : X → Y) (xs : List X) (y : Y) → Memᴰ y (map f xs) → (x : X) × Memᴰ x xs × (y ≡ f x)
@@ -61,27 +61,18 @@ in_map f (x ∷ xs) y m = ⊎_elim (λ e. (x, Memᴰ.head refl, e)) (λ k. let r
 
 -- The frame whose bytes are told.
 pub frame_from : (ws : List Waiting) (i : ℕ) (f : List ℕ) → Some f ≡ frame_at ws i → (x : Waiting) × (slice_get ws i ≡ Some x) × (x.bytes ≡ f)
-frame_from [] i f e = let z : ◌≡◌ {A = ℕ} 0 1 = cc in absurd (omega arith)
-frame_from (w ∷ ws) zero f e = (w, refl, (let z : w.bytes ≡ f = cc in z))
+frame_from [] i f e = absurd (none-some f (sym e))
+frame_from (w ∷ ws) zero f e = (w, refl, sym (same_Some f w.bytes e))
 frame_from (w ∷ ws) (suc i) f e = frame_from ws i f e
 
 young_all : (p b : ℕ) (frames : List (List ℕ)) (rs : List Record) (x : Waiting) → Falling p b rs → Memᴰ x (map (waiting_as p frames) rs) → x.age < b
 young_all p b frames [] x f m = absurd (Memᴰ.not-nil m)
 young_all p b frames (r ∷ rs) x f m =
-    let l = f.1.0 in
     ⊎_elim
-    (λ e. let a = ap (λ (w : Waiting). w.age) e in omega arith)
-    (λ k. let h = young_all p (age_at p r) frames rs x f.1.1 k in omega arith)
+    (λ e. subst (λ (w : Waiting). w.age < b) (sym e) f.1.0)
+    (λ k. lt_trans (young_all p (age_at p r) frames rs x f.1.1 k) f.1.0)
     (Memᴰ.cases_cons m)
 
 -- No frame of a store has reached the age limit.
 pub held_young : (s : Store) (x : Waiting) → Memᴰ x (held s) → x.age < age_limit
 held_young s x m = young_all s.puts 2048 (map content s.slots) (items s.ring s.records) x (falling_is s.puts 2048 (items s.ring s.records) s.young) m
-
--- A store has 64 slots.
-pub held_few : (s : Store) → length (held s) ≤ 64
-held_few s =
-    let n = length-map (items s.ring s.records) (waiting_as s.puts (map content s.slots)) in
-    let c = length_rung s.records (span_of s.ring) s.places s.ring.start s.ring.few in
-    let f = s.ring.few in
-    omega arith

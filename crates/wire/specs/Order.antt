@@ -1,9 +1,8 @@
 -- What the straight wire makes of a row of puts and takes, at either side.
-use Rattle.std.specs.Prelude.{◌≡◌, ℕ, ◌+◌, ◌-◌, ◌<◌, ◌≤◌, Bool, true, false, cond, ◌&&◌, List, [], ◌∷◌, ◌++◌, map, length, Some, None, Option, nat_le, nat_lt}
+use Rattle.std.specs.Prelude.{◌≡◌, ℕ, ◌+◌, ◌-◌, ◌<◌, ◌≤◌, Bool, cond, ◌&&◌, List, [], ◌∷◌, ◌++◌, map, length, Some, None, Option, nat_le, nat_lt}
 use mathlib.Core.List.{Memᴰ}
 use Rattle.medium.specs.Waiting.{Waiting, other_side, longest_frame, age_limit}
 use Rattle.medium.specs.declared.side.Side.{Side}
-use Rattle.medium.specs.declared.side.Side.TheVariants.{Left, Right}
 use Rattle.wire.specs.Choice.{same_side}
 use Rattle.wire.specs.Straight.{queue, queues_of, StraightPut, StraightTake}
 use Rattle.wire.specs.declared.straight.StraightWire.{StraightWire}

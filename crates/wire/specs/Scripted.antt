@@ -1,6 +1,6 @@
 -- The scripted wire: one row of frames for both sides, and a script that says which comes out.
-use Rattle.std.specs.Prelude.{◌≡◌, ℕ, zero, suc, ◌%◌, Bool, true, false, cond, List, [], ◌∷◌, length, drop, Some, None, vec_items, Option, ◌==◌, nat_le, slice_index}
-use Rattle.std.specs.List.{slice_get, remove}
+use Rattle.std.specs.Prelude.{◌≡◌, ℕ, ◌%◌, Bool, cond, List, [], length, drop, Some, None, vec_items, Option, ◌==◌, nat_le, slice_index}
+use Rattle.std.specs.List.{remove}
 use Rattle.medium.specs.Waiting.{Waiting, other_side, fresh}
 use Rattle.medium.specs.declared.side.Side.{Side}
 use Rattle.wire.specs.Choice.{for_side, distance}

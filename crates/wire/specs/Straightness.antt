@@ -1,35 +1,18 @@
 -- The straight wire: its meaning keeps to what every medium keeps to.
-use Rattle.std.specs.Prelude.{◌≡◌, ℕ, ◌+◌, ◌<◌, ◌≤◌, Bool, true, false, cond, ◌⊎◌, List, [], ◌∷◌, ◌++◌, map, length, Some, None, Option, nat_lt, refl}
-use Rattle.std.proofs.Common.{sym, ◌∙◌, ap, subst, inl, inr, ⊎_elim, arith}
+use Rattle.std.specs.Prelude.{◌≡◌, ℕ, ◌<◌, ◌⊎◌, List, [], map, Some}
+use Rattle.std.proofs.Common.{sym, ap, subst, inl, inr, ⊎_elim}
 use mathlib.Core.List.Memᴰ
 use mathlib.Core.List.{Memᴰ}
-use Rattle.std.proofs.lemmas.List.{map_push, length-map, drop-map}
 use Rattle.medium.specs.Laws.{Laws, AgedOrNew}
-use Rattle.medium.specs.Waiting.{Waiting, other_side, fresh, older_by, age_limit}
+use Rattle.medium.specs.Waiting.{Waiting, other_side, fresh, age_limit}
 use Rattle.medium.specs.declared.side.Side.{Side}
 use Rattle.medium.specs.declared.side.Side.TheVariants.{Left, Right}
-use Rattle.wire.specs.Frames.{held, older, added, frame_at}
+use Rattle.wire.specs.Frames.{held, older, added}
 use Rattle.wire.specs.Straight.{Queues, queue, to, queues_of, put_queued, given_first, take_queued, all_queued, straight_empty, straight_waiting, StraightPut, StraightTake}
 use Rattle.wire.specs.declared.store.Store.{Store}
 use Rattle.wire.specs.declared.straight.StraightWire.{StraightWire}
 use Rattle.wire.specs.Lawful.{Meant, laws}
-use Rattle.wire.specs.Members.{in_older, in_added, in_rest, in_nth, in_map, frame_from, held_young, held_few}
-
--- That frames wait for the side of their queue changes nothing else.
-pub to_older : (s : Side) (ws : List Waiting) → map (to s) (older ws) ≡ older (map (to s) ws)
-to_older s [] = refl
-to_older s (w ∷ ws) = go (nat_lt (w.age + 1) age_limit) (to_older s ws)
-  where
-    go : (b : Bool) → map (to s) (older ws) ≡ older (map (to s) ws) → map (to s) (cond b (older_by 1 w ∷ older ws) (older ws)) ≡ cond b (older_by 1 (to s w) ∷ older (map (to s) ws)) (older (map (to s) ws))
-    go true e = ap (λ (xs : List Waiting). older_by 1 (to s w) ∷ xs) e
-    go false e = e
-
-pub to_added : (s : Side) (f : List ℕ) (ws : List Waiting) → map (to s) (added (fresh s f) ws) ≡ added (fresh s f) (map (to s) ws)
-to_added s f ws = go (nat_lt (length ws) 64) ∙ ap (λ (n : ℕ). cond (nat_lt n 64) (map (to s) ws ++ fresh s f ∷ []) (map (to s) ws)) (sym (length-map ws (to s)))
-  where
-    go : (b : Bool) → map (to s) (cond b (ws ++ fresh s f ∷ []) ws) ≡ cond b (map (to s) ws ++ fresh s f ∷ []) (map (to s) ws)
-    go true = map_push (to s) ws (fresh s f)
-    go false = refl
+use Rattle.wire.specs.Members.{in_older, in_added, in_rest, in_nth, in_map, frame_from, held_young}
 
 -- x waits in the queue for a side.
 abbrev In : Side → Queues → Waiting → Type 0
@@ -60,7 +43,7 @@ young : (w : StraightWire) (x : Waiting) → Memᴰ x (straight_waiting w) → x
 young w x i = ⊎_elim (one Left w.left) (one Right w.right) (out (queues_of w) x i)
   where
     one : (s : Side) (t : Store) → Memᴰ x (map (to s) (held t)) → x.age < age_limit
-    one s t j = let r = in_map (to s) (held t) x j in let h = held_young t r.0 r.1 in let e = ap (λ (y : Waiting). y.age) r.2 in omega arith
+    one s t j = let r = in_map (to s) (held t) x j in subst (λ (y : Waiting). y.age < age_limit) (sym r.2) (held_young t r.0 r.1)
 
 sided : (w : StraightWire) (side : Side) (x : Waiting) → In side (queues_of w) x → x.side ≡ side
 sided w Left x i = ap (λ (y : Waiting). y.side) (in_map (to Left) (held w.left) x i).2
@@ -81,20 +64,3 @@ meant = record { empty = empty; young = young; ages = ages; gives = gives; keeps
 
 pub straight_laws : Laws straight_empty straight_waiting StraightPut StraightTake
 straight_laws = laws queues_of put_queued given_first take_queued straight_empty all_queued meant
-
--- A put by the changes to the two stores.
-pub put_left : (w : StraightWire) (f : List ℕ) (v : StraightWire) → held v.left ≡ older (held w.left) → held v.right ≡ added (fresh Right f) (older (held w.right)) → queues_of v ≡ put_queued Left f (queues_of w)
-put_left w f v e d =
-    ap (λ (ws : List Waiting). record { left = map (to Left) ws; right = map (to Right) (held v.right) }) e
-    ∙ ap (λ (ws : List Waiting). record { left = ws; right = map (to Right) (held v.right) }) (to_older Left (held w.left))
-    ∙ ap (λ (ws : List Waiting). record { left = older (map (to Left) (held w.left)); right = ws }) (ap (map (to Right)) d ∙ to_added Right f (older (held w.right)) ∙ ap (added (fresh Right f)) (to_older Right (held w.right)))
-
-pub put_right : (w : StraightWire) (f : List ℕ) (v : StraightWire) → held v.right ≡ older (held w.right) → held v.left ≡ added (fresh Left f) (older (held w.left)) → queues_of v ≡ put_queued Right f (queues_of w)
-put_right w f v e d =
-    ap (λ (ws : List Waiting). record { left = map (to Left) (held v.left); right = map (to Right) ws }) e
-    ∙ ap (λ (ws : List Waiting). record { left = map (to Left) (held v.left); right = ws }) (to_older Right (held w.right))
-    ∙ ap (λ (ws : List Waiting). record { left = ws; right = older (map (to Right) (held w.right)) }) (ap (map (to Left)) d ∙ to_added Left f (older (held w.left)) ∙ ap (added (fresh Left f)) (to_older Left (held w.left)))
-
-pub queue_few : (w : StraightWire) (s : Side) → length (queue s (queues_of w)) ≤ 64
-queue_few w Left = let n = length-map (held w.left) (to Left) in let f = held_few w.left in omega arith
-queue_few w Right = let n = length-map (held w.right) (to Right) in let f = held_few w.right in omega arith

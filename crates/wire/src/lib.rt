@@ -1,5 +1,7 @@
 //! Two media: the straight wire, which keeps order and loses only what finds no room, and the scripted wire, which loses,
 //! doubles and reorders as a script says. Both keep their frames in a `Store`.
+#![tactic(auto)]
+
 mod record;
 mod script;
 mod scripted;

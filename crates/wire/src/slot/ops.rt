@@ -56,7 +56,8 @@ impl Slot {
 
 /// Fills one slot where it lies; the others stay as they are.
 pub(crate) fn fill_at(slots: &mut [Slot], at: usize, frame: &[u8])
-    requires { (at < length slots.old) × (length frame.now ≤ longest_frame) }
+    requires place { at < length slots.old }
+    requires frame { length frame.now ≤ longest_frame }
     ensures { map content slots.new ≡ slice_set (map content slots.old) at frame.now }
 {
     slots[at].fill(frame);

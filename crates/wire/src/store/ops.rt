@@ -66,7 +66,8 @@ impl Store {
 
     // The frame behind the others; it is lost where all slots are taken.
     fn add(&mut self, side: Side, frame: &[u8])
-        requires { (length frame.now ≤ longest_frame) × (Aged self.old.puts (items self.old.ring self.old.records)) }
+        requires frame { length frame.now ≤ longest_frame }
+        requires aged { Aged self.old.puts (items self.old.ring self.old.records) }
         ensures { held self.new ≡ added (fresh side frame.now) (held self.old) }
     {
         let Some(at) = self.ring.claim() else {

@@ -1,5 +1,5 @@
 use Rattle.capture.proofs.Captured.{opened_captured}
 use Rattle.capture.proofs.headers.file_header.Goals as goal
 
-pub returns : goal.returns
-returns c = record { bytes = c.fixed-header.ensures; opens = opened_captured }
+pub returns-clause-opens : goal.returns-clause-opens
+returns-clause-opens c = opened_captured

@@ -1,4 +1,3 @@
-use Rattle.ring.specs.Items.{items}
 use Rattle.ring.proofs.Bringing.{Lifted}
 use Rattle.ring.proofs.ring.Ring.bring_forward.Given as goal
 

@@ -1,19 +1,15 @@
-use Rattle.std.proofs.Common.{◌≡◌, List, length, drop, Some, sym, ap, ◌∙◌, arith}
-use Rattle.ring.specs.Span.{Span, spot, taken_at, shorter, rung}
+use Rattle.std.proofs.Common.{◌≡◌, length, drop, Some, sym, ap, ◌∙◌, arith}
+use Rattle.ring.specs.Span.{Span, spot, taken_at, rung}
 use Rattle.ring.specs.Items.{span_of}
-use Rattle.ring.proofs.Spans.{below_some, at_taken, rung_shorter}
+use Rattle.ring.proofs.Spans.{below_some, rung_shorter}
 use Rattle.ring.proofs.ring.Ring.pop.Goals as goal
 
-pub returns : goal.returns
-returns g c =
+pub returns-clause-items : goal.returns-clause-items
+returns-clause-items g c =
     let r = c.args.self.now in
     let s : Span = span_of r in
     let xs = c.args.slots.now in
-    let x = c.index-slots-at.result in
     let long : length xs ≡ 64 = omega arith in
-    let taken : Some c.in-ok-at.at ≡ taken_at s 0 = sym c.in-ok-at.was ∙ c.release.ensures.place in
-    record {
-      answer = sym (at_taken r xs long 0 c.in-ok-at.at x taken c.index-slots-at.is);
-      items = ap (rung xs) c.release.ensures.after ∙ sym (ap (drop 1) (rung_shorter xs s long r.start r.few x (below_some 0 s.count (spot s 0) c.in-ok-at.at taken).0));
-      span = c.release.ensures.after;
-    }
+    let taken : Some c.in_ok-at.at ≡ taken_at s 0 = sym c.in_ok-at.was ∙ c.release.ensures.place in
+    ap (rung xs) c.release.ensures.after
+    ∙ sym (ap (drop 1) (rung_shorter xs s long r.start r.few c.index-slots-at.result (below_some 0 s.count (spot s 0) c.in_ok-at.at taken).0))

@@ -1,11 +1,8 @@
-use Rattle.std.proofs.Common.{◌≡◌, ◌<◌, ◌≤◌, List, length, drop, sym, ap, ◌∙◌, arith}
-use Rattle.std.proofs.lemmas.List.{drop_all}
-use Rattle.medium.specs.Waiting.{Waiting}
-use Rattle.wire.specs.Choice.{for_side}
+use Rattle.std.proofs.Common.{◌<◌, length, sym, ◌∙◌, arith}
 use Rattle.wire.specs.Frames.{held}
-use Rattle.wire.specs.Choosing.{count_one, count_none}
+use Rattle.wire.proofs.Choosing.{count_one, count_none}
 use Rattle.wire.proofs.store.Store.count_for.Goals as goal
-use Rattle.wire.proofs.store.Store.count_for.Goals.{then-waits-for, else-waits-for}
+use Rattle.wire.proofs.store.Store.count_for.Goals.{then-waits_for, else-waits_for}
 
 pub loop-i-preserved : goal.loop-i-preserved
 loop-i-preserved c =
@@ -13,15 +10,7 @@ loop-i-preserved c =
     let i = c.loop-i.i in
     let within : i < length ws = omega arith in
     let inv = c.loop-i.invariant in
-    elim c.if-waits-for.branch [
-      | then-waits-for w ↦ (let n = w.count_is in let h = count_one c.args.side ws i within (sym w.if-waits-for.true ∙ c.waits-for.ensures) in (omega arith, omega arith))
-      | else-waits-for w ↦ (let n = w.count_is in let h = count_none c.args.side ws i within (sym w.if-waits-for.false ∙ c.waits-for.ensures) in (omega arith, omega arith))
+    elim c.if-waits_for.branch [
+      | then-waits_for w ↦ (let n = w.count-is in let h = count_one c.args.side ws i within (sym w.if-waits_for.true ∙ c.waits_for.ensures) in (omega arith, omega arith))
+      | else-waits_for w ↦ (let n = w.count-is in let h = count_none c.args.side ws i within (sym w.if-waits_for.false ∙ c.waits_for.ensures) in (omega arith, omega arith))
     ]
-
-pub returns : goal.returns
-returns c =
-    let ws = held c.args.self.now in
-    let past : length ws ≤ c.loop-i.i = omega arith in
-    let none = ap (λ (l : List Waiting). length (for_side c.args.side l)) (drop_all c.loop-i.i ws past) in
-    let inv = c.loop-i.invariant.1 in
-    omega arith

@@ -1,11 +1,9 @@
-use Rattle.std.proofs.Common.{◌≡◌, ℕ, suc, ◌+◌, ◌-◌, ◌<◌, ◌≤◌, List, length, drop, sym, ap, ◌∙◌, subst, arith}
-use Rattle.std.proofs.lemmas.List.{drop_all}
-use Rattle.medium.specs.Waiting.{Waiting}
+use Rattle.std.proofs.Common.{◌≡◌, ℕ, suc, ◌+◌, ◌-◌, ◌<◌, length, drop, sym, ap, ◌∙◌, subst, arith}
 use Rattle.wire.specs.Choice.{distance}
 use Rattle.wire.specs.Frames.{held}
-use Rattle.wire.specs.Choosing.{distance_here, distance_less, distance_past}
+use Rattle.wire.proofs.Choosing.{distance_here, distance_less, distance_past}
 use Rattle.wire.proofs.store.Store.find.Goals as goal
-use Rattle.wire.proofs.store.Store.find.Goals.{then-waits-for+else-left-eq0, else-waits-for}
+use Rattle.wire.proofs.store.Store.find.Goals.{then-waits_for+else-left-eq0, else-waits_for}
 
 pub returns-then-left-eq0 : goal.returns-then-left-eq0
 returns-then-left-eq0 c =
@@ -13,7 +11,7 @@ returns-then-left-eq0 c =
     let i = c.loop-i.i in
     let s = c.args.side in
     let within : i < length ws = omega arith in
-    let none : distance s c.loop-i.left (drop i ws) ≡ 0 = ap (λ (k : ℕ). distance s k (drop i ws)) c.if-left-eq0.true ∙ distance_here s ws i within c.if-waits-for.ensures in
+    let none : distance s c.loop-i.left (drop i ws) ≡ 0 = ap (λ (k : ℕ). distance s k (drop i ws)) c.if-left-eq0.true ∙ distance_here s ws i within c.if-waits_for.ensures in
     let inv : i + distance s c.loop-i.left (drop i ws) ≡ distance s c.args.k ws = c.loop-i.invariant in
     omega arith
 
@@ -25,23 +23,12 @@ loop-i-preserved c =
     let k = c.loop-i.left in
     let within : i < length ws = omega arith in
     let inv : i + distance s k (drop i ws) ≡ distance s c.args.k ws = c.loop-i.invariant in
-    elim c.if-waits-for.branch [
-      | then-waits-for+else-left-eq0 w ↦ (let one : k ≡ suc (k - 1) = (let h = w.if-left-eq0.false in omega arith) in
-          let step : distance s k (drop i ws) ≡ suc (distance s (k - 1) (drop (i + 1) ws)) = ap (λ (n : ℕ). distance s n (drop i ws)) one ∙ distance_less s ws i within (k - 1) (sym w.if-waits-for.true ∙ c.waits-for.ensures) in
+    elim c.if-waits_for.branch [
+      | then-waits_for+else-left-eq0 w ↦ (let one : k ≡ suc (k - 1) = (let h = w.if-left-eq0.false in omega arith) in
+          let step : distance s k (drop i ws) ≡ suc (distance s (k - 1) (drop (i + 1) ws)) = ap (λ (n : ℕ). distance s n (drop i ws)) one ∙ distance_less s ws i within (k - 1) (sym w.if-waits_for.true ∙ c.waits_for.ensures) in
           let now : i + 1 + distance s (k - 1) (drop (i + 1) ws) ≡ distance s c.args.k ws = omega arith in
           subst (λ (n : ℕ). i + 1 + distance s n (drop (i + 1) ws) ≡ distance s c.args.k ws) (sym w.left-is) now)
-      | else-waits-for w ↦ (let step = distance_past s ws i within k (sym w.if-waits-for.false ∙ c.waits-for.ensures) in
+      | else-waits_for w ↦ (let step = distance_past s ws i within k (sym w.if-waits_for.false ∙ c.waits_for.ensures) in
           let now : i + 1 + distance s k (drop (i + 1) ws) ≡ distance s c.args.k ws = omega arith in
           subst (λ (n : ℕ). i + 1 + distance s n (drop (i + 1) ws) ≡ distance s c.args.k ws) (sym w.left-is) now)
     ]
-
-pub returns : goal.returns
-returns c =
-    let ws = held c.args.self.now in
-    let i = c.loop-i.i in
-    let s = c.args.side in
-    let past : length ws ≤ i = omega arith in
-    let none : distance s c.loop-i.left (drop i ws) ≡ 0 = ap (distance s c.loop-i.left) (drop_all i ws past) in
-    let inv : i + distance s c.loop-i.left (drop i ws) ≡ distance s c.args.k ws = c.loop-i.invariant in
-    let end = c.loop-i.auto.i-end in
-    omega arith

@@ -1,8 +1,8 @@
-use Rattle.std.proofs.Common.{◌≡◌, sym, ap, ◌∙◌, arith}
+use Rattle.std.proofs.Common.{sym, ap, ◌∙◌, arith}
 use Rattle.medium.specs.declared.side.Side.{Side}
 use Rattle.wire.specs.Straight.{queues_of, put_queued}
 use Rattle.wire.specs.declared.straight.StraightWire.{StraightWire}
-use Rattle.wire.specs.Straightness.{put_left, put_right}
+use Rattle.wire.proofs.Straightness.{put_left, put_right}
 use Rattle.wire.proofs.straight.ops.StraightWireMedium.put.Goals as goal
 
 pub returns-in-Left : goal.returns-in-Left
