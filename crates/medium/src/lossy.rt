@@ -8,7 +8,7 @@ use crate::interface::Medium;
 use crate::side::Side;
 
 /// A medium that loses every frame.
-#[derive(Clone, Copy)]
+#[derive(Debug, Clone, Copy)]
 pub struct Lossy;
 
 impl Lossy {

@@ -1,5 +1,5 @@
 -- An element that is swapped forward, step by step.
-use Rattle.std.proofs.Common.{◌≡◌, ℕ, zero, suc, ◌+◌, ◌-◌, ◌<◌, ◌≤◌, Bool, true, cond, ◌&&◌, ◌≢◌, List, length, get_or, sym, ap, ◌∙◌, ⊎_elim, arith}
+use Rattle.std.proofs.Common.{◌≡◌, ℕ, zero, suc, ◌+◌, ◌<◌, ◌≤◌, Bool, true, cond, ◌&&◌, ◌≢◌, List, length, get_or, sym, ap, ◌∙◌, ⊎_elim, arith}
 use Rattle.std.proofs.lemmas.List.Edits.{swapped_from_swap, length-swap, length-remove, get_or-remove_below, get_or-remove_above}
 use Rattle.std.proofs.lemmas.List.{same_lists, get_or_default}
 use Rattle.std.proofs.lemmas.List.Sorted.{IsPermutation-swap, IsPermutation-trans}
@@ -9,7 +9,6 @@ use Rattle.std.specs.List.Sorted.{IsPermutation}
 use Rattle.ring.specs.Span.{spot}
 use Rattle.ring.specs.Items.{span_of, items, holds, brought}
 use Rattle.ring.specs.declared.ring.Ring.{Ring}
-use Rattle.ring.proofs.Spans.{length_rung}
 
 -- `now` is `old` with the element at i moved forward to k.
 pub record Moved {X : Type 0} (old now : List X) (i k : ℕ) : Type 0 where
@@ -22,31 +21,32 @@ pub record Moved {X : Type 0} (old now : List X) (i k : ℕ) : Type 0 where
   pub behind : (m : ℕ) (d : X) → i < m → get_or now m d ≡ get_or old m d
 
 -- One step further.
-pub moved_more : {X : Type 0} (old now after : List X) (i k : ℕ) → Moved old now i k → 0 < k → after ≡ swap now (k - 1) k → Moved old after i (k - 1)
-moved_more old now after i k v some e =
+pub moved_more : {X : Type 0} (old now after : List X) (i k : ℕ) → Moved old now i (k + 1) → after ≡ swap now k (k + 1) → Moved old after i k
+moved_more old now after i k v e =
     let w = v.within in
     let f = v.forward in
     let n = v.same in
-    let jl : k - 1 < length now = omega arith in
-    let kl : k < length now = omega arith in
     record {
-      same = ap length e ∙ length-swap now (k - 1) k ∙ n;
+      same = ap length e ∙ length-swap now k (k + 1) ∙ n;
       within = w;
       forward = omega arith;
-      before = λ m d h. (swapped d jl kl).2 m (λ z. omega arith) (λ z. omega arith) ∙ v.before m d (omega arith);
-      here = λ d. (swapped d jl kl).0 ∙ v.here d;
-      between = λ m d h l. ⊎_elim (first m d jl kl) (λ ne. (swapped d jl kl).2 (m + 1) (λ z. omega arith) (λ z. ne (omega arith)) ∙ v.between m d (let q : m ≢ k - 1 = ne in omega arith) l) (cases_eq m (k - 1));
-      behind = λ m d h. (swapped d jl kl).2 m (λ z. omega arith) (λ z. omega arith) ∙ v.behind m d h;
+      before = λ m d h. (swapped d).2 m (λ z. omega arith) (λ z. omega arith) ∙ v.before m d (omega arith);
+      here = λ d. (swapped d).0 ∙ v.here d;
+      between = λ m d h l. ⊎_elim (first m d) (λ ne. (swapped d).2 (m + 1) (λ z. omega arith) (λ z. ne (omega arith)) ∙ v.between m d (let q : m ≢ k = ne in omega arith) l) (cases_eq m k);
+      behind = λ m d h. (swapped d).2 m (λ z. omega arith) (λ z. omega arith) ∙ v.behind m d h;
     }
   where
-    swapped : (d : _) (jl : k - 1 < length now) (kl : k < length now) → Rattle.std.proofs.lemmas.List.Edits.Swapped (λ m. get_or now m d) (λ m. get_or after m d) (k - 1) k
-    swapped d jl kl = swapped_from_swap now after (k - 1) k d jl kl e
+    swapped : (d : _) → Rattle.std.proofs.lemmas.List.Edits.Swapped (λ m. get_or now m d) (λ m. get_or after m d) k (k + 1)
+    swapped d =
+        let w = v.within in
+        let f = v.forward in
+        let n = v.same in
+        swapped_from_swap now after k (k + 1) d (omega arith) (omega arith) e
 
-    first : (m : ℕ) (d : _) (jl : k - 1 < length now) (kl : k < length now) → m ≡ k - 1 → get_or after (m + 1) d ≡ get_or old m d
-    first m d jl kl z =
-        let a : m + 1 ≡ k = omega arith in
-        let b : k - 1 < k = omega arith in
-        ap (λ (q : ℕ). get_or after q d) a ∙ (swapped d jl kl).1 ∙ v.before (k - 1) d b ∙ sym (ap (λ (q : ℕ). get_or old q d) z)
+    first : (m : ℕ) (d : _) → m ≡ k → get_or after (m + 1) d ≡ get_or old m d
+    first m d z =
+        let b : k < k + 1 = omega arith in
+        ap (λ (q : ℕ). get_or after (q + 1) d) z ∙ (swapped d).1 ∙ v.before k d b ∙ sym (ap (λ (q : ℕ). get_or old q d) z)
 
 pub moved_all : {X : Type 0} (old now : List X) (i : ℕ) (d : X) → Moved old now i 0 → now ≡ brought old i d
 moved_all old now i d v =
@@ -73,24 +73,17 @@ pub record Lifted {X : Type 0} (r : Ring) (old now : List X) (i k : ℕ) : Type 
   pub shuffled : IsPermutation old now
 
 module _ {X : Type 0} (r : Ring) where
-  count_is : (xs : List X) → length xs ≡ 64 → length (items r xs) ≡ r.count
-  count_is xs l = length_rung xs (span_of r) l r.start r.few
-
   pub holds_below : (xs : List X) (i : ℕ) → length xs ≡ 64 → i < r.count → holds r xs i ≡ true
   holds_below xs i l h = and_from _ _ (eq-eqb (length xs) 64 l) (lt-ltb i r.count h)
 
-  pub lifted_more : (old now after : List X) (i k : ℕ) (b : Bool) → Lifted r old now i k → length old ≡ 64 → 0 < k → b ≡ (holds r now (k - 1) && holds r now k) → items r after ≡ cond b (swap (items r now) (k - 1) k) (items r now) → after ≡ cond b (swap now (spot (span_of r) (k - 1)) (spot (span_of r) k)) now → Lifted r old after i (k - 1)
-  lifted_more old now after i k b v l some answer swapped places =
-      let m = v.moved in
+  pub lifted_more : (old now after : List X) (i k : ℕ) (b : Bool) → Lifted r old now i (k + 1) → length old ≡ 64 → i < r.count → b ≡ (holds r now k && holds r now (k + 1)) → items r after ≡ cond b (swap (items r now) k (k + 1)) (items r now) → after ≡ cond b (swap now (spot (span_of r) k) (spot (span_of r) (k + 1))) now → Lifted r old after i k
+  lifted_more old now after i k b v l c answer swapped places =
       let n = v.places in
-      let c = count_is old l in
-      let w = m.within in
-      let f = m.forward in
-      let h = r.start in
-      let both : b ≡ true = answer ∙ and_from _ _ (holds_below now (k - 1) n (omega arith)) (holds_below now k n (omega arith)) in
-      let at : after ≡ swap now (spot (span_of r) (k - 1)) (spot (span_of r) k) = places ∙ cond-true b _ now both in
+      let f = v.moved.forward in
+      let both : b ≡ true = answer ∙ and_from _ _ (holds_below now k n (omega arith)) (holds_below now (k + 1) n (omega arith)) in
+      let at : after ≡ swap now (spot (span_of r) k) (spot (span_of r) (k + 1)) = places ∙ cond-true b _ now both in
       record {
         places = ap length at ∙ length-swap now _ _ ∙ n;
-        moved = moved_more (items r old) (items r now) (items r after) i k m some (swapped ∙ cond-true b _ (items r now) both);
-        shuffled = IsPermutation-trans old now after v.shuffled (IsPermutation-swap now after (spot (span_of r) (k - 1)) (spot (span_of r) k) (omega arith) (omega arith) at);
+        moved = moved_more (items r old) (items r now) (items r after) i k v.moved (swapped ∙ cond-true b _ (items r now) both);
+        shuffled = IsPermutation-trans old now after v.shuffled (IsPermutation-swap now after (spot (span_of r) k) (spot (span_of r) (k + 1)) (omega arith) (omega arith) at);
       }

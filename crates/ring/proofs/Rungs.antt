@@ -1,6 +1,7 @@
 -- The list that a row of places stands for, under a write, one more, one less and a swap.
 use Rattle.std.proofs.Common.{◌≡◌, ℕ, zero, suc, ◌+◌, ◌-◌, ◌%◌, ◌<◌, ◌≤◌, ◌≢◌, List, [], ◌∷◌, ◌++◌, length, get_or, take, drop, set, sym, refl, ap, ◌∙◌, ⊎_elim, arith}
-use Rattle.std.proofs.lemmas.List.{same_lists, length-take, length-drop, length-append, length-set, length_push, get_or-take, get_or-drop, get_or_append_left, get_or-append_right, get_or-set_same, get_or-set_other, get_or_push, get_or_default}
+use Rattle.std.proofs.Math.Seq.{take-append-add}
+use Rattle.std.proofs.lemmas.List.{drop-append-le, take-take, same_lists, length-take, length-drop, length-append, length-set, length_push, get_or-take, get_or-drop, get_or_append_left, get_or-append_right, get_or-set_same, get_or-set_other, get_or_push, get_or_default}
 use Rattle.std.proofs.lemmas.Bool.{cases_lt, cases_eq}
 use Rattle.std.proofs.lemmas.List.Edits.{swapped_from_swap, length-swap}
 use Rattle.std.specs.List.{swap}
@@ -130,3 +131,12 @@ module _ {X : Type 0} (xs : List X) (h n : ℕ) (l : length xs ≡ 64) (a : h < 
       let lr : length (row xs h n) ≡ n = length_row xs h n l a b in
       let lt : length (row xs ((h + 1) % 64) (n - 1)) ≡ n - 1 = length_row xs ((h + 1) % 64) (n - 1) l a1 b1 in
       same_lists _ _ (omega arith) (λ k e m. at_pop d p b k e (omega arith))
+
+-- Round the end: what lies from the oldest to the last place, and then what goes on at the first.
+pub row_wraps : {X : Type 0} (xs : List X) (h n : ℕ) → h ≤ length xs → n ≤ length xs → length (drop h xs) < n → drop h xs ++ take (n - length (drop h xs)) (take h xs) ≡ row xs h n
+row_wraps xs h n a b c =
+    let l : length (drop h xs) ≡ length xs - h = length-drop h xs in
+    let m : ℕ = n - length (drop h xs) in
+    let e : length (drop h xs) + m ≡ n = omega arith in
+    let f : take m (take h xs) ≡ take m xs = take-take m h xs (omega arith) in
+    ap (λ ys. drop h xs ++ ys) f ∙ sym (take-append-add (drop h xs) xs m) ∙ ap (λ (k : ℕ). take k (drop h xs ++ xs)) e ∙ sym (ap (take n) (drop-append-le h xs xs a))

@@ -5,11 +5,11 @@ mod cursor;
 mod elements;
 
 /// A ring that holds all it can, or a slice that has not 64 places.
-#[derive(Clone, Copy)]
+#[derive(Debug, Clone, Copy, PartialEq, Eq)]
 pub struct Full;
 
 /// Which of 64 places are taken: `count` of them, from `head` on, round the end.
-#[derive(Clone, Copy)]
+#[derive(Debug, Clone, Copy)]
 pub struct Ring {
     // the place of the oldest element
     head: usize,

@@ -16,19 +16,13 @@ impl Ring {
         Ring { head: 0, count: 0 }
     }
 
-    fn taken(&self) -> usize
-        ensures { result ≡ (span_of self.now).count }
-    {
-        let Ring { count, .. } = *self;
-        count
-    }
-
     /// How many elements the ring holds, whatever they are.
     pub fn count(&self) -> usize
         ensures span { result ≡ (span_of self.now).count }
         ensures items { (xs : List ℕ) → length xs ≡ 64 → result ≡ length (items self.now xs) }
     {
-        self.taken()
+        let Ring { count, .. } = *self;
+        count
     }
 
     /// The place of an element, or none where there is no element so far from the oldest.

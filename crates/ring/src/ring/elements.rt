@@ -4,7 +4,7 @@ ghost use Rattle.std.specs.List.{swap, slice_get};
 ghost use Rattle.std.specs.Option.{option_map};
 ghost use Rattle.std.specs.List.Sorted.{IsPermutation};
 ghost use Rattle.ring.specs.Span.{spot, longer, shorter};
-ghost use Rattle.ring.specs.Items.{span_of, items, has_room, holds, element_at, brought};
+ghost use Rattle.ring.specs.Items.{is_places, span_of, items, has_room, holds, element_at, brought};
 
 use super::{Full, Ring};
 
@@ -35,6 +35,22 @@ impl Ring {
         }
         let at = self.place(distance)?;
         Some(&slots[at])
+    }
+
+    /// The elements, oldest first, in two parts: those up to the last place, and those that go on at the first. Both are empty where
+    /// the slice has not 64 places.
+    pub fn as_slices<'a, T>(&self, slots: &'a [T]) -> (&'a [T], &'a [T])
+        ensures { result.0.now ++ result.1.now ≡ (if is_places slots.now then items self.now slots.now else []) }
+    {
+        if slots.len() != Ring::PLACES {
+            return (&[], &[]);
+        }
+        let (front, back) = slots.split_at(self.head);
+        if self.count <= back.len() {
+            (&back[..self.count], &[])
+        } else {
+            (back, &front[..self.count - back.len()])
+        }
     }
 
     /// Puts another element in the place of one; none of the others changes. Answers whether there was one to replace.
@@ -79,10 +95,8 @@ impl Ring {
         if slots.len() != Ring::PLACES || distance >= self.count {
             return false;
         }
-        let mut at = distance;
-        while at > 0 {
-            self.swap(slots, at - 1, at);
-            at -= 1;
+        for at in (0..distance).rev() {
+            self.swap(slots, at, at + 1);
         }
         true
     }

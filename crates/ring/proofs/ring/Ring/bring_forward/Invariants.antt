@@ -3,6 +3,3 @@ use Rattle.ring.proofs.ring.Ring.bring_forward.Given as goal
 
 abbrev pub invariant-loop-at : goal.invariant-loop-at
 invariant-loop-at g l = Lifted l.self l.initial.slots l.slots l.distance l.at
-
-abbrev pub decreases-loop-at : goal.decreases-loop-at
-decreases-loop-at g l = l.at
