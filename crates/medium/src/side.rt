@@ -6,7 +6,7 @@ ghost use Rattle.medium.specs.Waiting.{other_side};
 pub const LONGEST_FRAME: usize = 276;
 
 /// A side of a medium: the end that stands there puts frames in for the other side and takes those for its own.
-#[derive(Debug, Clone, Copy, PartialEq, Eq, Hash)]
+#[derive(Debug, Clone, Copy, PartialEq, Eq)]
 pub enum Side {
     Left,
     Right,

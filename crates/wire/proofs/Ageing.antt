@@ -1,7 +1,7 @@
 -- What one more put does to the ages that the stamps tell.
 use Rattle.std.specs.Prelude.{◌≡◌, ℕ, zero, suc, ◌+◌, ◌%◌, ◌<◌, ◌≤◌, Bool, true, false, cond, List, [], ◌∷◌, ◌++◌, map, drop, refl}
 use Rattle.std.proofs.Common.{sym, ◌∙◌, ap, subst, arith}
-use Rattle.std.proofs.lemmas.Bool.{and_from, lt-ltb, le-ltb, leb-true, leb-false}
+use Rattle.std.proofs.lemmas.Bool.{false≢true, and_from, lt-ltb, le-ltb, leb-true, leb-false}
 use Rattle.std.specs.List.{remove}
 use Rattle.medium.specs.Waiting.{Waiting, older_by}
 use Rattle.wire.specs.Records.{age_at, waiting_as, falling, last_put, Aged}
@@ -86,7 +86,7 @@ module _ (p q : ℕ) (low : p < 65536) (next : q ≡ (p + 1) % 65536) where
       }
 
   pub passed_goes : (frames : List (List ℕ)) (rs : List Record) → falling p 2048 rs ≡ true → last_put p rs ≡ true → Passed frames rs (drop 1 rs)
-  passed_goes frames [] f e = absurd (let z : ◌≡◌ {A = ℕ} 0 1 = cc in omega arith)
+  passed_goes frames [] f e = absurd (false≢true e)
   passed_goes frames (r ∷ rs) f e =
       let f0 = falling_is p 2048 (r ∷ rs) f in
       let ge : 2047 ≤ age_at p r = leb-true _ _ e in

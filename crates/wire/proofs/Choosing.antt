@@ -1,53 +1,53 @@
 -- Counting and finding the frames for one side.
-use Rattle.std.specs.Prelude.{◌≡◌, ℕ, zero, suc, ◌+◌, ◌<◌, Bool, true, false, cond, List, [], ◌∷◌, length, drop, Some, refl}
-use Rattle.std.proofs.Common.{sym, ◌∙◌, ap, arith}
-use Rattle.std.proofs.lemmas.Bool.{cond-true, cond-false}
-use Rattle.std.specs.List.{slice_get}
-use Rattle.std.specs.Option.{option_map}
+use Rattle.std.specs.Prelude.{◌≡◌, ℕ, zero, suc, ◌+◌, ◌<◌, Bool, true, false, cond, List, [], ◌∷◌, map, length, refl}
+use Rattle.std.proofs.Common.{◌∙◌, ap, arith}
+use Rattle.std.proofs.lemmas.Bool.{cond-true, eq-eqb}
+use Rattle.std.proofs.lemmas.List.{length-map}
+use Rattle.std.specs.List.{slice_get, filter, enumerate_from}
+use Rattle.std.specs.Option.{option_map, option_map_or}
 use Rattle.medium.specs.Waiting.{Waiting}
 use Rattle.medium.specs.declared.side.Side.{Side}
-use Rattle.wire.specs.Choice.{same_side, for_side, distance, is_for}
-use Rattle.wire.specs.Frames.{frame_at}
+use Rattle.wire.specs.Choice.{same_side, for_side, distance}
+use Rattle.ring.specs.Items.{is_places, items}
+use Rattle.wire.specs.Content.{content}
+use Rattle.wire.specs.Frames.{held, frame_at}
+use Rattle.wire.specs.Records.{waiting_as}
+use Rattle.wire.specs.declared.record.Record.{Record}
+use Rattle.wire.specs.declared.store.Store.{Store}
 
--- The list from i on begins with what stands at i.
-pub record Opened (ws : List Waiting) (i : ℕ) : Type 0 where
-  pub first : Waiting
-  pub is : slice_get ws i ≡ Some first
-  pub behind : drop i ws ≡ first ∷ drop (i + 1) ws
-
-opened_suc : (w : Waiting) (ws : List Waiting) (i : ℕ) → Opened ws i → Opened (w ∷ ws) (suc i)
-opened_suc w ws i o = record { first = o.first; is = o.is; behind = o.behind ∙ ap (λ (n : ℕ). o.first ∷ drop n (w ∷ ws)) (sum i) }
+-- The records of the frames for a side.
+pub for_side_kept : (s : Side) (p : ℕ) (frames : List (List ℕ)) (rs : List Record) → for_side s (map (waiting_as p frames) rs) ≡ map (waiting_as p frames) (filter (λ r. same_side s r.side) rs)
+for_side_kept s p frames [] = refl
+for_side_kept s p frames (r ∷ rs) = go (same_side s r.side) (for_side_kept s p frames rs)
   where
-    sum : (i : ℕ) → suc (i + 1) ≡ suc i + 1
-    sum i = omega arith
+    go : (b : Bool) → for_side s (map (waiting_as p frames) rs) ≡ map (waiting_as p frames) (filter (λ r. same_side s r.side) rs) → cond b (waiting_as p frames r ∷ for_side s (map (waiting_as p frames) rs)) (for_side s (map (waiting_as p frames) rs)) ≡ map (waiting_as p frames) (cond b (r ∷ filter (λ r. same_side s r.side) rs) (filter (λ r. same_side s r.side) rs))
+    go true e = ap (λ ws. waiting_as p frames r ∷ ws) e
+    go false e = e
 
-pub opened : (ws : List Waiting) (i : ℕ) → i < length ws → Opened ws i
-opened [] i l = absurd (omega arith)
-opened (w ∷ ws) zero l = record { first = w; is = refl; behind = refl }
-opened (w ∷ ws) (suc i) l = opened_suc w ws i (opened ws i (omega arith))
+-- These records, counted from n on.
+abbrev pub numbered : Side → (n : ℕ) → List Record → List (ℕ × Record)
+numbered s n rs = filter (λ (q : ℕ × Record). same_side s q.1.side) (enumerate_from n rs)
 
-module _ (s : Side) (ws : List Waiting) (i : ℕ) (within : i < length ws) where
-  abbrev here : Opened ws i
-  here = opened ws i within
+-- The number of the k-th of them, or another where there are not so many.
+abbrev pub place : Side → (n : ℕ) → List Record → (k other : ℕ) → ℕ
+place s n rs k other = option_map_or (λ (q : ℕ × Record). q.0) (slice_get (numbered s n rs) k) other
 
-  same : (b : Bool) → b ≡ is_for s (slice_get ws i) → same_side s here.first.side ≡ b
-  same b e = sym (e ∙ ap (is_for s) here.is)
+module _ (s : Side) (p : ℕ) (frames : List (List ℕ)) where
+  abbrev distance_in : ℕ → List Record → ℕ
+  distance_in k rs = distance s k (map (waiting_as p frames) rs)
 
-  pub count_one : true ≡ is_for s (slice_get ws i) → length (for_side s (drop i ws)) ≡ suc (length (for_side s (drop (i + 1) ws)))
-  count_one e = ap (λ (l : List Waiting). length (for_side s l)) here.behind ∙ ap length (cond-true _ _ _ (same true e))
-
-  pub count_none : false ≡ is_for s (slice_get ws i) → length (for_side s (drop i ws)) ≡ length (for_side s (drop (i + 1) ws))
-  count_none e = ap (λ (l : List Waiting). length (for_side s l)) here.behind ∙ ap length (cond-false _ _ _ (same false e))
-
-  pub distance_here : true ≡ is_for s (slice_get ws i) → distance s 0 (drop i ws) ≡ 0
-  distance_here e = ap (distance s 0) here.behind ∙ cond-true _ _ _ (same true e)
-
-  pub distance_less : (k : ℕ) → true ≡ is_for s (slice_get ws i) → distance s (suc k) (drop i ws) ≡ suc (distance s k (drop (i + 1) ws))
-  distance_less k e = ap (distance s (suc k)) here.behind ∙ ap suc (cond-true _ _ _ (same true e))
-
-  pub distance_past : (k : ℕ) → false ≡ is_for s (slice_get ws i) → distance s k (drop i ws) ≡ suc (distance s k (drop (i + 1) ws))
-  distance_past zero e = ap (distance s 0) here.behind ∙ cond-false _ _ _ (same false e)
-  distance_past (suc k) e = ap (distance s (suc k)) here.behind ∙ ap suc (cond-false _ _ _ (same false e))
+  place_is : (n : ℕ) (rs : List Record) (k other : ℕ) → other ≡ n + length rs → place s n rs k other ≡ n + distance_in k rs
+  place_is n [] k other e = e
+  place_is n (r ∷ rs) zero other e = go (same_side s r.side) (place_is (n + 1) rs zero other (omega arith))
+    where
+      go : (b : Bool) → place s (n + 1) rs zero other ≡ n + 1 + distance_in zero rs → option_map_or (λ (q : ℕ × Record). q.0) (slice_get (cond b ((n, r) ∷ numbered s (n + 1) rs) (numbered s (n + 1) rs)) 0) other ≡ n + cond b 0 (suc (distance_in zero rs))
+      go true below = omega arith
+      go false below = omega arith
+  place_is n (r ∷ rs) (suc k) other e = go (same_side s r.side) (place_is (n + 1) rs k other (omega arith)) (place_is (n + 1) rs (suc k) other (omega arith))
+    where
+      go : (b : Bool) → place s (n + 1) rs k other ≡ n + 1 + distance_in k rs → place s (n + 1) rs (suc k) other ≡ n + 1 + distance_in (suc k) rs → option_map_or (λ (q : ℕ × Record). q.0) (slice_get (cond b ((n, r) ∷ numbered s (n + 1) rs) (numbered s (n + 1) rs)) (suc k)) other ≡ n + suc (cond b (distance_in k rs) (distance_in (suc k) rs))
+      go true less same = omega arith
+      go false less same = omega arith
 
 -- The k-th frame for a side stands where `distance` says.
 pub nth_distance : (s : Side) (k : ℕ) (ws : List Waiting) → k < length (for_side s ws) → slice_get ws (distance s k ws) ≡ slice_get (for_side s ws) k
@@ -65,3 +65,19 @@ nth_distance s (suc k) (w ∷ ws) l = go (same_side s w.side) (λ h. nth_distanc
 
 pub frame_distance : (s : Side) (k : ℕ) (ws : List Waiting) → k < length (for_side s ws) → frame_at ws (distance s k ws) ≡ frame_at (for_side s ws) k
 frame_distance s k ws l = ap (option_map (λ (w : Waiting). w.bytes)) (nth_distance s k ws l)
+
+-- The ring of a store answers for its records.
+pub held_records : (s : Store) → cond (is_places s.records) (items s.ring s.records) [] ≡ items s.ring s.records
+held_records s = cond-true _ _ [] (eq-eqb (length s.records) 64 s.places)
+
+pub length_for_side : (side : Side) (s : Store) → length (for_side side (held s)) ≡ length (filter (λ r. same_side side r.side) (items s.ring s.records))
+length_for_side side s =
+    let rs = items s.ring s.records in
+    ap length (for_side_kept side s.puts (map content s.slots) rs) ∙ length-map (filter (λ r. same_side side r.side) rs) (waiting_as s.puts (map content s.slots))
+
+pub place_held : (side : Side) (s : Store) (k other : ℕ) → other ≡ length (held s) → place side 0 (items s.ring s.records) k other ≡ distance side k (held s)
+place_held side s k other e =
+    let rs = items s.ring s.records in
+    let long = length-map rs (waiting_as s.puts (map content s.slots)) in
+    let at = place_is side s.puts (map content s.slots) 0 rs k other (omega arith) in
+    omega arith

@@ -2,8 +2,8 @@ pub mod Naming
 pub mod Ageing
 pub mod Adding
 pub mod Reading
+pub mod Fronts
 pub mod Removing
-pub mod Members
 pub mod Straightness
 pub mod Ordered
 pub mod InTime

@@ -2,7 +2,8 @@
 use Rattle.std.proofs.Common.{◌≡◌, ℕ, suc, ◌+◌, ◌-◌, ◌<◌, ◌≤◌, Bool, true, false, cond, ◌&&◌, ltb, leb, List, [], ◌∷◌, ◌++◌, map, length, drop, Some, None, Option, sym, refl, ap, ◌∙◌, subst, ⊎_elim, append_assoc, arith}
 use mathlib.Core.List.{Memᴰ}
 use Rattle.std.proofs.lemmas.List.{append-nil, map_push, length-map, length_push}
-use Rattle.std.proofs.lemmas.Bool.{cases_lt, lt-ltb, le-leb, lt-leb}
+use Rattle.std.proofs.lemmas.Bool.{false≢true, cases_lt, lt-ltb, le-leb, lt-leb}
+use Rattle.std.proofs.lemmas.Option.{none-some, same_Some}
 use Rattle.medium.specs.Waiting.{Waiting, other_side, fresh, older_by, longest_frame, age_limit}
 use Rattle.medium.specs.declared.side.Side.{Side}
 use Rattle.medium.specs.declared.side.Side.TheVariants.{Left, Right}
@@ -23,8 +24,8 @@ grown b f fs = cond b (fs ++ f ∷ []) fs
 
 same_queue : (side at : Side) (q : Queues) → same_side side at ≡ true → queue at q ≡ queue side q
 same_queue Left Left q e = refl
-same_queue Left Right q e = let z : ◌≡◌ {A = ℕ} 0 1 = cc in absurd (omega arith)
-same_queue Right Left q e = let z : ◌≡◌ {A = ℕ} 0 1 = cc in absurd (omega arith)
+same_queue Left Right q e = absurd (false≢true e)
+same_queue Right Left q e = absurd (false≢true e)
 same_queue Right Right q e = refl
 
 -- Where none ages out, all stay.
@@ -34,7 +35,7 @@ stay (w ∷ ws) young = go (ltb (w.age + 1) age_limit) (lt-ltb _ _ (young w (Mem
   where
     go : (b : Bool) → b ≡ true → bytes_of (older ws) ≡ bytes_of ws → bytes_of (cond b (older_by 1 w ∷ older ws) (older ws)) ≡ w.bytes ∷ bytes_of ws
     go true t e = ap (λ (fs : List (List ℕ)). w.bytes ∷ fs) e
-    go false t e = let z : ◌≡◌ {A = ℕ} 0 1 = cc in absurd (omega arith)
+    go false t e = absurd (false≢true t)
 
 bytes_added : (side : Side) (f : List ℕ) (ws : List Waiting) → bytes_of (added (fresh side f) ws) ≡ grown (ltb (length (bytes_of ws)) 64) f (bytes_of ws)
 bytes_added side f ws = go (ltb (length ws) 64) ∙ ap (λ (n : ℕ). grown (ltb n 64) f (bytes_of ws)) (sym (length-map ws (λ x. x.bytes)))
@@ -72,12 +73,12 @@ put_frames side from f w u p young = ⊎_elim long fits (cases_lt longest_frame 
 -- What a take that gave none found, where it had room for every frame.
 found_none : (ws : List Waiting) → None ≡ frame_at ws 0 → ws ≡ []
 found_none [] e = refl
-found_none (w ∷ ws) e = let z : ◌≡◌ {A = ℕ} 0 1 = cc in absurd (omega arith)
+found_none (w ∷ ws) e = absurd (none-some w.bytes e)
 
 -- What a take that gave a frame found.
 found_some : (ws : List Waiting) (f : List ℕ) → Some f ≡ frame_at ws 0 → bytes_of ws ≡ f ∷ bytes_of (drop 1 ws)
-found_some [] f e = let z : ◌≡◌ {A = ℕ} 0 1 = cc in absurd (omega arith)
-found_some (w ∷ ws) f e = let z : w.bytes ≡ f = cc in ap (λ (g : List ℕ). g ∷ bytes_of ws) z
+found_some [] f e = absurd (none-some f (sym e))
+found_some (w ∷ ws) f e = ap (λ (g : List ℕ). g ∷ bytes_of ws) (sym (same_Some f w.bytes e))
 
 -- A take by what it gave: the frames for a side before it, from those after it.
 abbrev restored : Bool → Option (List ℕ) → List (List ℕ) → List (List ℕ)

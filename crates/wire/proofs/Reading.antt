@@ -1,7 +1,9 @@
 -- What a store reads at a distance from the oldest.
-use Rattle.std.proofs.Common.{◌≡◌, ℕ, zero, suc, ◌<◌, List, [], ◌∷◌, ◌++◌, map, length, get_or, take, drop, Some, None, Option, sym, refl, ap, ◌∙◌, ⊎_elim, arith}
-use Rattle.std.proofs.lemmas.List.{length-map, get_or_past, get_or-map, take_at}
+use Rattle.std.proofs.Common.{◌≡◌, ℕ, ◌<◌, List, [], ◌++◌, map, length, get_or, drop, Some, None, Option, sym, ap, ◌∙◌, ⊎_elim, arith}
+use Rattle.std.proofs.lemmas.List.{length-map, get_or_past, get_or-map}
+use Rattle.std.proofs.lemmas.Grind.{common_steps}
 use Rattle.std.proofs.lemmas.Bool.{cases_lt, cond-true, eq-eqb}
+use Rattle.std.proofs.lemmas.Option.{slice_get-map, get_or_from_slice_get}
 use Rattle.std.specs.List.{slice_get}
 use Rattle.std.specs.Option.{option_map}
 use Rattle.ring.specs.Span.{spot, rung}
@@ -18,15 +20,8 @@ use Rattle.wire.specs.declared.store.Store.{Store}
 use Rattle.wire.proofs.Adding.{named_rung}
 use Rattle.wire.proofs.Naming.{slot_of}
 
-pub nth_map : {X Y : Type 0} (f : X → Y) (xs : List X) (i : ℕ) → slice_get (map f xs) i ≡ option_map f (slice_get xs i)
-nth_map f [] i = refl
-nth_map f (x ∷ xs) zero = refl
-nth_map f (x ∷ xs) (suc i) = nth_map f xs i
-
 named_nth : (rs : List Record) (i : ℕ) (r : Record) → slice_get rs i ≡ Some r → get_or (slots_named rs) i 0 ≡ r.slot
-named_nth [] i r e = let z : ◌≡◌ {A = ℕ} 0 1 = cc in absurd (omega arith)
-named_nth (x ∷ rs) zero r e = let z : x ≡ r = cc in ap (λ (y : Record). y.slot) z
-named_nth (x ∷ rs) (suc i) r e = named_nth rs i r e
+named_nth rs i r e = get_or_from_slice_get (slots_named rs) i r.slot 0 (slice_get-map slot_of rs i ∙ ap (option_map slot_of) e)
 
 module _ (s : Store) where
   abbrev rs : List Record
@@ -50,7 +45,7 @@ module _ (s : Store) where
   slot_within i r e = let n = named_nth (items s.ring rs) i r (sym (e ∙ at_is i)) in let l = slot_low i in omega arith
 
   pub held_at : (i : ℕ) (o : Option Record) → o ≡ element_at s.ring rs i → slice_get (held s) i ≡ option_map (waiting_as s.puts (map content s.slots)) o
-  held_at i o e = nth_map (waiting_as s.puts (map content s.slots)) (items s.ring rs) i ∙ ap (option_map (waiting_as s.puts (map content s.slots))) (sym (e ∙ at_is i))
+  held_at i o e = slice_get-map (waiting_as s.puts (map content s.slots)) (items s.ring rs) i ∙ ap (option_map (waiting_as s.puts (map content s.slots))) (sym (e ∙ at_is i))
 
   -- The bytes of the frame are those in the slot of its record.
   pub bytes_at : (i : ℕ) (r : Record) (t : Slot) → Some r ≡ element_at s.ring rs i → t ≡ get_or s.slots r.slot t → get_or (map content s.slots) r.slot [] ≡ content t
@@ -64,4 +59,4 @@ module _ (s : Store) where
 
 -- A frame laid at the front of a place.
 pub laid_given : (f before after : List ℕ) (n : ℕ) → n ≡ length f → after ≡ f ++ drop n before → frame_given (Some n) after ≡ Some f
-laid_given f before after n e a = ap Some (ap (take n) a ∙ take_at f (drop n before) n (sym e))
+laid_given f before after n e a = grind (arith, common_steps)

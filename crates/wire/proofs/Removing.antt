@@ -1,6 +1,7 @@
 -- What a store holds once a frame was brought forward and released.
-use Rattle.std.proofs.Common.{◌≡◌, ℕ, zero, suc, ◌≤◌, Bool, true, false, cond, List, [], ◌∷◌, ◌++◌, map, length, take, drop, sym, refl, ap, ◌∙◌, ⊎_elim, arith}
+use Rattle.std.proofs.Common.{◌≡◌, ℕ, ◌≤◌, Bool, true, false, cond, List, map, length, drop, sym, refl, ap, ◌∙◌, ⊎_elim, arith}
 use Rattle.std.proofs.lemmas.List.{map-append, take-map, drop-map}
+use Rattle.std.proofs.lemmas.Grind.{common_steps}
 use Rattle.std.proofs.lemmas.Bool.{cond-true, cond-false, and_cases, eq-eqb, ltb-false, both_ways}
 use Rattle.std.specs.List.{remove}
 use Rattle.std.specs.List.Sorted.{IsPermutation}
@@ -17,17 +18,11 @@ use Rattle.wire.specs.Ageing.{falling_is}
 use Rattle.wire.proofs.Ageing.{is_falling, falling_removed}
 use Rattle.wire.proofs.Naming.{Apart, apart_shuffled}
 
-pub map_removed : {X Y : Type 0} (f : X → Y) (xs : List X) (i : ℕ) → map f (remove xs i) ≡ remove (map f xs) i
-map_removed f xs i =
-    map-append f (take i xs) (drop (suc i) xs)
-    ∙ ap (λ ys. ys ++ map f (drop (suc i) xs)) (sym (take-map f i xs))
-    ∙ ap (λ ys. take i (map f xs) ++ ys) (sym (drop-map f (suc i) xs))
+map_removed : {X Y : Type 0} (f : X → Y) (xs : List X) (i : ℕ) → map f (remove xs i) ≡ remove (map f xs) i
+map_removed f xs i = simp (map-append, take-map, drop-map) refl
 
 removed_past : {X : Type 0} (xs : List X) (i : ℕ) → length xs ≤ i → remove xs i ≡ xs
-removed_past [] zero l = refl
-removed_past [] (suc i) l = refl
-removed_past (x ∷ xs) zero l = absurd (omega arith)
-removed_past (x ∷ xs) (suc i) l = ap (λ ys. x ∷ ys) (removed_past xs i (omega arith))
+removed_past xs i l = grind (arith, common_steps)
 
 module _ (s : Store) (ts : List Record) (b : Bool) (i : ℕ) (answer : b ≡ holds s.ring s.records i) (lies : (d : Record) → items s.ring ts ≡ cond b (brought (items s.ring s.records) i d) (items s.ring s.records)) (shuffled : IsPermutation s.records ts) where
   abbrev before : List Record

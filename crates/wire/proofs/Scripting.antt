@@ -1,13 +1,11 @@
--- The scripted wire: a take by the changes to store and script.
-use Rattle.std.specs.Prelude.{◌≡◌, ℕ, ◌%◌, ◌<◌, ◌≤◌, Bool, true, false, List, length, Some, None, Option, nat_le, refl}
+-- The scripted wire: the frame that a choice gives.
+use Rattle.std.specs.Prelude.{◌≡◌, ℕ, ◌%◌, ◌<◌, ◌≤◌, Bool, length, Some, None, Option, nat_le, refl}
 use Rattle.std.proofs.Common.{sym, ◌∙◌, ap, ⊎_elim, mod-lt, arith}
 use Rattle.std.proofs.lemmas.Bool.{cases_lt, cond-true, cond-false, eq-eqb, ne_eqb}
-use Rattle.std.specs.List.{remove}
-use Rattle.medium.specs.Waiting.{Waiting}
 use Rattle.medium.specs.declared.side.Side.{Side}
 use Rattle.wire.specs.Choice.{for_side, distance}
 use Rattle.wire.specs.Frames.{frame_at}
-use Rattle.wire.specs.Scripted.{Row, next_byte, chosen, given_chosen, choice, script_behind, left_by, take_chosen}
+use Rattle.wire.specs.Scripted.{Row, next_byte, chosen, given_chosen, choice}
 use Rattle.wire.proofs.Choosing.{frame_distance}
 
 -- What a choice says, and that it gives what the rule gives.
@@ -35,15 +33,3 @@ module _ (side : Side) (r : Row) where
 
       none : few ≤ 0 → frame_at r.frames at ≡ given_chosen side r
       none l = let h : few ≡ 0 = omega arith in let f = sym (choice_none h) ∙ e in let z : ◌≡◌ {A = ℕ} 0 1 = cc in absurd (omega arith)
-
-  -- A take by its choice.
-  pub take_by : (after : Row) → after.frames ≡ left_by (choice side r) r.frames → after.script ≡ script_behind side r → after ≡ take_chosen side r
-  take_by after e d =
-      ap (λ (ws : List Waiting). record { frames = ws; script = after.script }) e
-      ∙ ap (λ (bs : List ℕ). record { frames = left_by (choice side r) r.frames; script = bs }) d
-
-  pub left_stays : (at : ℕ) (b : Bool) → choice side r ≡ Some (at, b) → b ≡ true → (ws : List Waiting) → ws ≡ r.frames → ws ≡ left_by (choice side r) r.frames
-  left_stays at b e t ws h = h ∙ sym (ap (λ (o : Option (ℕ × Bool)). left_by o r.frames) e ∙ cond-true b r.frames _ t)
-
-  pub left_leaves : (at : ℕ) (b : Bool) → choice side r ≡ Some (at, b) → b ≡ false → (ws : List Waiting) → ws ≡ remove r.frames at → ws ≡ left_by (choice side r) r.frames
-  left_leaves at b e t ws h = h ∙ sym (ap (λ (o : Option (ℕ × Bool)). left_by o r.frames) e ∙ cond-false b r.frames _ t)

@@ -1,5 +1,5 @@
 -- The frames for one side, among those for both.
-use Rattle.std.specs.Prelude.{ℕ, zero, suc, Bool, true, false, cond, List, [], ◌∷◌, Some, None, Option}
+use Rattle.std.specs.Prelude.{ℕ, zero, suc, Bool, true, false, cond, List, [], ◌∷◌}
 use Rattle.medium.specs.Waiting.{Waiting}
 use Rattle.medium.specs.declared.side.Side.{Side}
 use Rattle.medium.specs.declared.side.Side.TheVariants.{Left, Right}
@@ -21,8 +21,3 @@ abbrev pub distance : Side → (k : ℕ) → List Waiting → ℕ
 distance s k [] = 0
 distance s zero (w ∷ ws) = cond (same_side s w.side) 0 (suc (distance s zero ws))
 distance s (suc k) (w ∷ ws) = suc (cond (same_side s w.side) (distance s k ws) (distance s (suc k) ws))
-
--- Whether there is a frame and it waits for a side.
-abbrev pub is_for : Side → Option Waiting → Bool
-is_for s None = false
-is_for s (Some w) = same_side s w.side

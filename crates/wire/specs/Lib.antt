@@ -2,6 +2,7 @@ pub mod Content
 pub mod Records
 pub mod Frames
 pub mod Rules
+pub mod Sided
 pub mod Straight
 pub mod Choice
 pub mod Scripted

@@ -33,11 +33,8 @@ in_older (w ∷ ws) x i = go (nat_lt (w.age + 1) age_limit) (λ k. in_older ws x
 pub in_added : (w : Waiting) (ws : List Waiting) (x : Waiting) → Memᴰ x (added w ws) → Memᴰ x ws ⊎ (x ≡ w)
 in_added w ws x i = go (nat_lt (length ws) 64) i
   where
-    single : Memᴰ x (w ∷ []) → x ≡ w
-    single j = ⊎_elim (λ e. e) (λ k. absurd (Memᴰ.not-nil k)) (Memᴰ.cases_cons j)
-
     go : (b : Bool) → Memᴰ x (cond b (ws ++ w ∷ []) ws) → Memᴰ x ws ⊎ (x ≡ w)
-    go true j = ⊎_elim inl (λ k. inr (single k)) (Memᴰ.append_cases ws j)
+    go true j = ⊎_elim inl (λ k. inr (Memᴰ.eq_of_singleton k)) (Memᴰ.append_cases ws j)
     go false j = inl j
 
 pub in_removed : {X : Type 0} (xs : List X) (i : ℕ) (x : X) → Memᴰ x (remove xs i) → Memᴰ x xs
@@ -54,10 +51,6 @@ pub in_nth : {X : Type 0} (xs : List X) (i : ℕ) (x : X) → slice_get xs i ≡
 in_nth [] i x e = absurd (none-some x e)
 in_nth (y ∷ xs) zero x e = Memᴰ.head (sym (same_Some y x e))
 in_nth (y ∷ xs) (suc i) x e = Memᴰ.tail (in_nth xs i x e)
-
-pub in_map : {X Y : Type 0} (f : X → Y) (xs : List X) (y : Y) → Memᴰ y (map f xs) → (x : X) × Memᴰ x xs × (y ≡ f x)
-in_map f [] y m = absurd (Memᴰ.not-nil m)
-in_map f (x ∷ xs) y m = ⊎_elim (λ e. (x, Memᴰ.head refl, e)) (λ k. let r = in_map f xs y k in (r.0, Memᴰ.tail r.1, r.2)) (Memᴰ.cases_cons m)
 
 -- The frame whose bytes are told.
 pub frame_from : (ws : List Waiting) (i : ℕ) (f : List ℕ) → Some f ≡ frame_at ws i → (x : Waiting) × (slice_get ws i ≡ Some x) × (x.bytes ≡ f)

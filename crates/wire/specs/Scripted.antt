@@ -1,6 +1,7 @@
 -- The scripted wire: one row of frames for both sides, and a script that says which comes out.
-use Rattle.std.specs.Prelude.{◌≡◌, ℕ, ◌%◌, Bool, cond, List, [], length, drop, Some, None, vec_items, Option, ◌==◌, nat_le, slice_index}
+use Rattle.std.specs.Prelude.{◌≡◌, ℕ, ◌%◌, Bool, cond, List, [], length, drop, Some, None, Option, ◌==◌, nat_le, slice_index}
 use Rattle.std.specs.List.{remove}
+use Rattle.std.specs.Vec.Iter.{into_iter_items}
 use Rattle.medium.specs.Waiting.{Waiting, other_side, fresh}
 use Rattle.medium.specs.declared.side.Side.{Side}
 use Rattle.wire.specs.Choice.{for_side, distance}
@@ -15,7 +16,7 @@ pub record Row : Type 0 where
   pub script : List ℕ
 
 abbrev pub script_left : Script → List ℕ
-script_left s = drop s.used (vec_items s.bytes)
+script_left s = into_iter_items s.0
 
 abbrev pub row_of : ScriptedWire → Row
 row_of w = record { frames = held w.store; script = script_left w.script }

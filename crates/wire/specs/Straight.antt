@@ -21,7 +21,7 @@ abbrev pub to : Side → Waiting → Waiting
 to s w = record { side = s; bytes = w.bytes; age = w.age }
 
 abbrev pub queues_of : StraightWire → Queues
-queues_of w = record { left = map (to Left) (held w.left); right = map (to Right) (held w.right) }
+queues_of w = record { left = map (to Left) (held w.queues.left); right = map (to Right) (held w.queues.right) }
 
 -- A frame enters the queue for the other side; those in both queues are one older.
 abbrev pub put_queued : Side → List ℕ → Queues → Queues

@@ -2,9 +2,11 @@
 //! doubles and reorders as a script says. Both keep their frames in a `Store`.
 #![tactic(auto)]
 
+mod carried;
 mod record;
 mod script;
 mod scripted;
+mod sided;
 mod slot;
 mod store;
 mod straight;

@@ -1,8 +1,9 @@
 //! What is known of a waiting frame besides its bytes.
-ghost use Rattle.std.specs.Prelude.{◌≡◌, ◌≤◌, length};
+ghost use Rattle.std.specs.Prelude.{◌≡◌, length};
 ghost use Rattle.wire.specs.Records.{age_at, Numbered};
 
 use medium::Side;
+use std::array;
 
 /// A frame that waits.
 #[derive(Clone, Copy)]
@@ -24,12 +25,14 @@ impl Record {
     }
 }
 
-/// Gives each record the slot of its own number.
-pub(crate) fn number(records: &mut [Record])
-    requires { length records.old ≤ 256 }
-    ensures { Numbered (length records.old) records.new }
+/// A record for each slot, which names the slot of its own number.
+pub(crate) fn numbered() -> [Record; 64]
+    ensures length { length result ≡ 64 }
+    ensures slots { Numbered 64 result }
 {
-    for i in 0..records.len() {
-        records[i].slot = i as u8;
-    }
+    array::from_fn(|slot| Record {
+        slot: slot as u8,
+        stamp: 0,
+        side: Side::Left,
+    })
 }

@@ -2,18 +2,17 @@
 ghost use Rattle.std.specs.Prelude.{◌≡◌, drop};
 ghost use Rattle.wire.specs.Scripted.{script_left, next_byte};
 
-/// The bytes of a script, and how many of them were used.
+use std::vec::IntoIter;
+
+/// The bytes of a script that are still to come.
 #[derive(Drop)]
-pub(crate) struct Script {
-    bytes: Vec<u8>,
-    used: usize,
-}
+pub(crate) struct Script(IntoIter<u8>);
 
 impl Script {
     pub(crate) fn new(bytes: Vec<u8>) -> Script
         ensures { script_left result ≡ bytes.items }
     {
-        Script { bytes, used: 0 }
+        Script(bytes.into_iter())
     }
 
     /// The next byte; 0 when all are used.
@@ -21,11 +20,6 @@ impl Script {
         ensures byte { result ≡ next_byte (script_left self.old) }
         ensures left { script_left self.new ≡ drop 1 (script_left self.old) }
     {
-        if self.used >= self.bytes.len() {
-            return 0;
-        }
-        let byte = self.bytes[self.used];
-        self.used += 1;
-        byte
+        self.0.next().unwrap_or(0)
     }
 }

@@ -18,7 +18,8 @@ pub(crate) struct Store {
     // how many frames were put in, here or elsewhere; goes round at 65,536
     puts: u16,
     ring: Ring,
-    // the waiting frames' records stand where the ring says; those elsewhere name the free slots
+    // Two arrays of fixed size, since there is no heap and a frame's bytes never move: the waiting frames' records stand where the
+    // ring says, and those elsewhere name the free slots.
     records: [Record; 64],
     slots: [Slot; 64],
     ghost places: { length records ≡ 64 },

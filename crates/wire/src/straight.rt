@@ -1,4 +1,5 @@
 //! The straight wire.
+use crate::sided::Sided;
 use crate::store::Store;
 
 mod ops;
@@ -9,6 +10,5 @@ mod peek;
 #[derive(Drop)]
 pub struct StraightWire {
     // what waits for each side
-    left: Store,
-    right: Store,
+    queues: Sided<Store>,
 }

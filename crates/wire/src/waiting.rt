@@ -2,7 +2,7 @@
 use medium::Side;
 
 /// A frame that waits on a wire.
-#[derive(Clone, Copy)]
+#[derive(Debug, Clone, Copy, PartialEq, Eq)]
 pub struct WaitingFrame<'a> {
     /// The side that it waits for.
     pub side: Side,

@@ -1,9 +1,11 @@
 //! Its rule as a medium.
 ghost use Rattle.std.specs.Prelude.{◌≡◌, ◌%◌, ◌<◌, nat_le};
-ghost use Rattle.wire.specs.Scripted.{row_of, choice, script_behind, scripted_empty, scripted_waiting, ScriptedPut, ScriptedTake};
+ghost use Rattle.medium.specs.Laws.{frame_given, Filled};
+ghost use Rattle.wire.specs.Scripted.{row_of, choice, script_behind, given_chosen, take_chosen, scripted_empty, scripted_waiting, ScriptedPut, ScriptedTake};
 ghost use Rattle.wire.specs.Scripting.{scripted_laws};
 
 use super::ScriptedWire;
+use crate::carried::Carried;
 use crate::script::Script;
 use crate::store::Store;
 use medium::{LONGEST_FRAME, Medium, Side};
@@ -13,7 +15,7 @@ fn which(byte: u8, count: usize) -> usize
     requires { 0 < count }
     ensures { result ≡ byte % 128 % count }
 {
-    (byte % 128) as usize % count
+    usize::from(byte % 128) % count
 }
 
 // Whether the frame that a script byte gives stays on the wire.
@@ -50,6 +52,20 @@ impl ScriptedWire {
         let at = self.store.find(side, which(byte, count));
         Some((at, stays(byte)))
     }
+
+    // Gives out the frame that the script chooses for a side.
+    fn take_chosen(&mut self, side: Side, place: &mut [u8; LONGEST_FRAME]) -> Option<usize>
+        ensures frame { frame_given result place.new ≡ given_chosen side (row_of self.old) }
+        ensures place { Filled result place.old place.new }
+        ensures left { row_of self.new ≡ take_chosen side (row_of self.old) }
+    {
+        let (at, stays) = self.choose(side)?;
+        let given = self.store.give(at, place);
+        if !stays {
+            self.store.remove(at);
+        }
+        given
+    }
 }
 
 impl Medium for ScriptedWire {
@@ -64,21 +80,13 @@ impl Medium for ScriptedWire {
     ghost lawful = { scripted_laws };
 
     fn put(&mut self, from: Side, frame: &[u8]) {
-        if frame.len() > LONGEST_FRAME {
-            return;
+        if let Some(frame) = Carried::new(frame) {
+            self.store.put(from.other(), frame);
         }
-        self.store.put(from.other(), frame);
     }
 
     fn take(&mut self, side: Side, place: &mut [u8]) -> Option<usize> {
-        if place.len() < LONGEST_FRAME {
-            return None;
-        }
-        let (at, stays) = self.choose(side)?;
-        let given = self.store.give(at, place);
-        if !stays {
-            self.store.remove(at);
-        }
-        given
+        let front = place.first_chunk_mut::<LONGEST_FRAME>()?;
+        self.take_chosen(side, front)
     }
 }

@@ -1,9 +1,9 @@
 //! Frames are copied once into a slot and once out of it.
 ghost use Rattle.std.specs.Prelude.{◌≡◌, ◌<◌, ◌≤◌, [], ◌++◌, map, length, drop, slice_set};
-ghost use Rattle.medium.specs.Waiting.{longest_frame};
 ghost use Rattle.wire.specs.Content.{content};
 
 use super::Slot;
+use crate::carried::Carried;
 use medium::LONGEST_FRAME;
 
 // The bytes of `src` at the front of the place.
@@ -12,7 +12,7 @@ fn lay(place: &mut [u8], src: &[u8])
     ensures { place.new ≡ src.now ++ drop (length src.now) place.old }
 {
     let n = src.len();
-    place[0..n].copy_from_slice(src);
+    place[..n].copy_from_slice(src);
 }
 
 impl Slot {
@@ -25,40 +25,37 @@ impl Slot {
         }
     }
 
-    pub(crate) fn fill(&mut self, frame: &[u8])
-        requires { length frame.now ≤ longest_frame }
-        ensures { content self.new ≡ frame.now }
+    pub(crate) fn fill(&mut self, frame: Carried)
+        ensures { content self.new ≡ frame.entry.bytes.now }
     {
-        let n = frame.len();
-        lay(&mut self.bytes, frame);
-        self.filled = n as u16;
+        let bytes = frame.bytes();
+        lay(&mut self.bytes, bytes);
+        self.filled = bytes.len() as u16;
     }
 
     /// The frame, where it lies.
     pub(crate) fn frame(&self) -> &[u8]
         ensures { result.now ≡ content self.now }
     {
-        let n = self.filled as usize;
-        &self.bytes[0..n]
+        let n = usize::from(self.filled);
+        &self.bytes[..n]
     }
 
     /// Copies the frame to the front of a place and answers its length.
-    pub(crate) fn give(&self, place: &mut [u8]) -> usize
-        requires { longest_frame ≤ length place.old }
+    pub(crate) fn give(&self, place: &mut [u8; LONGEST_FRAME]) -> usize
         ensures length { result ≡ length (content self.now) }
         ensures place { place.new ≡ content self.now ++ drop result place.old }
     {
-        let n = self.filled as usize;
-        lay(place, &self.bytes[0..n]);
+        let n = usize::from(self.filled);
+        lay(place, &self.bytes[..n]);
         n
     }
 }
 
 /// Fills one slot where it lies; the others stay as they are.
-pub(crate) fn fill_at(slots: &mut [Slot], at: usize, frame: &[u8])
-    requires place { at < length slots.old }
-    requires frame { length frame.now ≤ longest_frame }
-    ensures { map content slots.new ≡ slice_set (map content slots.old) at frame.now }
+pub(crate) fn fill_at(slots: &mut [Slot], at: usize, frame: Carried)
+    requires { at < length slots.old }
+    ensures { map content slots.new ≡ slice_set (map content slots.old) at frame.entry.bytes.now }
 {
     slots[at].fill(frame);
 }

@@ -1,16 +1,17 @@
 //! What a store does, told by the list of its frames.
-ghost use Rattle.std.specs.Prelude.{◌≡◌, ℕ, ◌≤◌, List, [], length, drop};
+ghost use Rattle.std.specs.Prelude.{◌≡◌, [], length, drop};
 ghost use Rattle.std.specs.List.{remove};
 ghost use Rattle.medium.specs.Laws.{frame_given, Filled};
-ghost use Rattle.medium.specs.Waiting.{fresh, longest_frame};
+ghost use Rattle.medium.specs.Waiting.{fresh};
 ghost use Rattle.ring.specs.Items.{items};
 ghost use Rattle.wire.specs.Frames.{held, older, added, frame_at};
 ghost use Rattle.wire.specs.Records.{last_put, Aged};
 
 use super::Store;
-use crate::record::{Record, number};
+use crate::carried::Carried;
+use crate::record::{self, Record};
 use crate::slot::{Slot, fill_at};
-use medium::Side;
+use medium::{LONGEST_FRAME, Side};
 use ring::Ring;
 
 /// The age at which a frame is gone.
@@ -20,17 +21,10 @@ impl Store {
     pub(crate) fn new() -> Store
         ensures { held result ≡ [] }
     {
-        let unused = Record {
-            slot: 0,
-            stamp: 0,
-            side: Side::Left,
-        };
-        let mut records = [unused; 64];
-        number(&mut records);
         Store {
             puts: 0,
             ring: Ring::new(),
-            records,
+            records: record::numbered(),
             slots: [Slot::empty(); 64],
         }
     }
@@ -46,10 +40,8 @@ impl Store {
     fn expires(&self) -> bool
         ensures { result ≡ last_put self.now.puts (items self.now.ring self.now.records) }
     {
-        match self.ring.get(&self.records, 0) {
-            Some(oldest) => oldest.age(self.puts) >= AGE_LIMIT - 1,
-            None => false,
-        }
+        let oldest = self.ring.get(&self.records, 0);
+        oldest.is_some_and(|record| record.age(self.puts) >= AGE_LIMIT - 1)
     }
 
     /// One more frame is put in, here or elsewhere: each frame is one older, and one that reaches the age limit is gone.
@@ -65,10 +57,9 @@ impl Store {
     }
 
     // The frame behind the others; it is lost where all slots are taken.
-    fn add(&mut self, side: Side, frame: &[u8])
-        requires frame { length frame.now ≤ longest_frame }
-        requires aged { Aged self.old.puts (items self.old.ring self.old.records) }
-        ensures { held self.new ≡ added (fresh side frame.now) (held self.old) }
+    fn add(&mut self, side: Side, frame: Carried)
+        requires { Aged self.old.puts (items self.old.ring self.old.records) }
+        ensures { held self.new ≡ added (fresh side frame.entry.bytes.now) (held self.old) }
     {
         let Some(at) = self.ring.claim() else {
             return;
@@ -83,17 +74,15 @@ impl Store {
     }
 
     /// A frame is put in here.
-    pub(crate) fn put(&mut self, side: Side, frame: &[u8])
-        requires { length frame.now ≤ longest_frame }
-        ensures { held self.new ≡ added (fresh side frame.now) (older (held self.old)) }
+    pub(crate) fn put(&mut self, side: Side, frame: Carried)
+        ensures { held self.new ≡ added (fresh side frame.entry.bytes.now) (older (held self.old)) }
     {
         self.pass();
         self.add(side, frame);
     }
 
     /// Copies the frame at a distance from the oldest to the front of a place and answers its length.
-    pub(crate) fn give(&self, distance: usize, place: &mut [u8]) -> Option<usize>
-        requires { longest_frame ≤ length place.old }
+    pub(crate) fn give(&self, distance: usize, place: &mut [u8; LONGEST_FRAME]) -> Option<usize>
         ensures frame { frame_given result place.new ≡ frame_at (held self.now) distance }
         ensures place { Filled result place.old place.new }
     {
@@ -111,8 +100,7 @@ impl Store {
     }
 
     /// Gives out the oldest frame.
-    pub(crate) fn take_first(&mut self, place: &mut [u8]) -> Option<usize>
-        requires { longest_frame ≤ length place.old }
+    pub(crate) fn take_first(&mut self, place: &mut [u8; LONGEST_FRAME]) -> Option<usize>
         ensures frame { frame_given result place.new ≡ frame_at (held self.old) 0 }
         ensures place { Filled result place.old place.new }
         ensures left { held self.new ≡ drop 1 (held self.old) }

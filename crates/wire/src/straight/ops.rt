@@ -5,6 +5,8 @@ ghost use Rattle.wire.specs.Straight.{straight_empty, straight_waiting, Straight
 ghost use Rattle.wire.specs.Straightness.{straight_laws};
 
 use super::StraightWire;
+use crate::carried::Carried;
+use crate::sided::Sided;
 use crate::store::Store;
 use medium::{LONGEST_FRAME, Medium, Side};
 
@@ -14,17 +16,10 @@ impl StraightWire {
         ensures { straight_empty result }
     {
         StraightWire {
-            left: Store::new(),
-            right: Store::new(),
-        }
-    }
-
-    fn count(&self, side: Side) -> usize
-        ensures { result ≡ length (frames_for side self.now) }
-    {
-        match side {
-            Side::Left => self.left.count(),
-            Side::Right => self.right.count(),
+            queues: Sided {
+                left: Store::new(),
+                right: Store::new(),
+            },
         }
     }
 
@@ -34,7 +29,7 @@ impl StraightWire {
         ensures answer { result ≡ length (frames_for side self.now) }
         ensures order { InOrder side self.now }
     {
-        self.count(side)
+        self.queues.get(side).count()
     }
 }
 
@@ -50,28 +45,16 @@ impl Medium for StraightWire {
     ghost lawful = { straight_laws };
 
     fn put(&mut self, from: Side, frame: &[u8]) {
-        if frame.len() > LONGEST_FRAME {
+        let Some(frame) = Carried::new(frame) else {
             return;
-        }
-        match from {
-            Side::Left => {
-                self.left.pass();
-                self.right.put(Side::Right, frame);
-            }
-            Side::Right => {
-                self.right.pass();
-                self.left.put(Side::Left, frame);
-            }
-        }
+        };
+        let to = from.other();
+        self.queues.get_mut(from).pass();
+        self.queues.get_mut(to).put(to, frame);
     }
 
     fn take(&mut self, side: Side, place: &mut [u8]) -> Option<usize> {
-        if place.len() < LONGEST_FRAME {
-            return None;
-        }
-        match side {
-            Side::Left => self.left.take_first(place),
-            Side::Right => self.right.take_first(place),
-        }
+        let front = place.first_chunk_mut::<LONGEST_FRAME>()?;
+        self.queues.get_mut(side).take_first(front)
     }
 }

@@ -6,10 +6,10 @@ use Rattle.wire.specs.Records.{falling, waiting_as}
 use Rattle.wire.proofs.Adding as adding
 use Rattle.wire.proofs.store.Store.add.Goals as goal
 
-pub fill_at-requires-clause-place : goal.fill_at-requires-clause-place
-fill_at-requires-clause-place c =
+pub fill_at-requires : goal.fill_at-requires
+fill_at-requires c =
     let s = c.args.self.now in
-    below s.wide (adding.slot_within s c.in-Some.at c.args.side c.args.frame.now c.in-Some.ensures.place _)
+    below s.wide (adding.slot_within s c.in-Some.at c.args.side c.args.frame.bytes.now c.in-Some.ensures.place _)
   where
     below : {a b : ℕ} → b ≡ 64 → a < 64 → a < b
     below e l = omega arith
@@ -19,11 +19,11 @@ invariant_of-self-2 c =
     let s = c.args.self.now in
     let at = c.in-Some.at in
     let side = c.args.side in
-    let f = c.args.frame.now in
+    let f = c.args.frame.bytes.now in
     let free = c.in-Some.ensures.place in
     let w = s.wide in
     let n = s.places in
-    let young = adding.young s at side f free _ c.requires.aged in
+    let young = adding.young s at side f free _ c.requires in
     let entered = ap (rung (set s.records at _)) c.claim.ensures.after ∙ adding.entered s at side f free _ in
     record {
       places = length-set s.records at _ ∙ n;
@@ -39,7 +39,7 @@ returns c =
     let s = c.args.self.now in
     let at = c.in-Some.at in
     let side = c.args.side in
-    let f = c.args.frame.now in
+    let f = c.args.frame.bytes.now in
     let free = c.in-Some.ensures.place in
     let frames = map content c.fill_at.new.slots in
     let entered = ap (rung (set s.records at _)) c.claim.ensures.after ∙ adding.entered s at side f free _ in

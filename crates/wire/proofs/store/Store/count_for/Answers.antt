@@ -1,16 +1,21 @@
-use Rattle.std.proofs.Common.{◌<◌, length, sym, ◌∙◌, arith}
-use Rattle.wire.specs.Frames.{held}
-use Rattle.wire.proofs.Choosing.{count_one, count_none}
+use Rattle.std.proofs.Common.{rules, ◌≡◌, List, ◌++◌, length, sym, ap, ◌∙◌}
+use borrow.Author.Tests.{tests}
+use Rattle.std.specs.List.{filter}
+use Rattle.std.proofs.lemmas.Iterator.{YieldsList-from_slice}
+use Rattle.std.proofs.lemmas.Iterator.Consumers.{YieldsList-from_filter, YieldsList-from_chain, count_from_yields_List}
+use Rattle.wire.specs.Choice.{same_side}
+use Rattle.wire.specs.declared.record.Record.{Record}
+use Rattle.wire.proofs.Choosing.{held_records, length_for_side}
 use Rattle.wire.proofs.store.Store.count_for.Goals as goal
-use Rattle.wire.proofs.store.Store.count_for.Goals.{then-waits_for, else-waits_for}
 
-pub loop-i-preserved : goal.loop-i-preserved
-loop-i-preserved c =
-    let ws = held c.args.self.now in
-    let i = c.loop-i.i in
-    let within : i < length ws = omega arith in
-    let inv = c.loop-i.invariant in
-    elim c.if-waits_for.branch [
-      | then-waits_for w ↦ (let n = w.count-is in let h = count_one c.args.side ws i within (sym w.if-waits_for.true ∙ c.waits_for.ensures) in (omega arith, omega arith))
-      | else-waits_for w ↦ (let n = w.count-is in let h = count_none c.args.side ws i within (sym w.if-waits_for.false ∙ c.waits_for.ensures) in (omega arith, omega arith))
-    ]
+pub returns : goal.returns
+returns c =
+    let s = c.args.self.now in
+    let side = c.args.side in
+    let parts = c.as_slices.result in
+    let all = YieldsList-from_chain (YieldsList-from_slice parts.0.now cc) (YieldsList-from_slice parts.1.now cc) (cc) (cc) in
+    let counted : c.count.result ≡ length (filter (λ (r : Record). same_side side r.side) (parts.0.now ++ parts.1.now)) =
+    count_from_yields_List _ _ c.count.ensures.ran (YieldsList-from_filter _ (λ (r : Record). same_side side r.side) all c.filter.ensures.closure (λ x r q k. search (rules, tests))) in
+    counted
+    ∙ ap (λ (rs : List Record). length (filter (λ r. same_side side r.side) rs)) (c.as_slices.ensures ∙ held_records s)
+    ∙ sym (length_for_side side s)

@@ -1,34 +1,26 @@
-use Rattle.std.proofs.Common.{◌≡◌, ℕ, suc, ◌+◌, ◌-◌, ◌<◌, length, drop, sym, ap, ◌∙◌, subst, arith}
-use Rattle.wire.specs.Choice.{distance}
-use Rattle.wire.specs.Frames.{held}
-use Rattle.wire.proofs.Choosing.{distance_here, distance_less, distance_past}
+use Rattle.std.proofs.Common.{rules, ◌≡◌, ℕ, List, ◌++◌, Option, ap, ◌∙◌}
+use borrow.Author.Tests.{tests}
+use Rattle.std.specs.List.{slice_get}
+use Rattle.std.specs.Option.{option_map, option_map_or}
+use Rattle.std.proofs.lemmas.Iterator.{YieldsList-from_slice}
+use Rattle.std.proofs.lemmas.Iterator.Consumers.{YieldsList-from_filter, YieldsList-from_enumerate, YieldsList-from_chain, nth_from_yields_List}
+use Rattle.wire.specs.Choice.{same_side}
+use Rattle.wire.specs.declared.record.Record.{Record}
+use Rattle.wire.proofs.Choosing.{numbered, place, held_records, place_held}
 use Rattle.wire.proofs.store.Store.find.Goals as goal
-use Rattle.wire.proofs.store.Store.find.Goals.{then-waits_for+else-left-eq0, else-waits_for}
 
-pub returns-then-left-eq0 : goal.returns-then-left-eq0
-returns-then-left-eq0 c =
-    let ws = held c.args.self.now in
-    let i = c.loop-i.i in
-    let s = c.args.side in
-    let within : i < length ws = omega arith in
-    let none : distance s c.loop-i.left (drop i ws) ≡ 0 = ap (λ (k : ℕ). distance s k (drop i ws)) c.if-left-eq0.true ∙ distance_here s ws i within c.if-waits_for.ensures in
-    let inv : i + distance s c.loop-i.left (drop i ws) ≡ distance s c.args.k ws = c.loop-i.invariant in
-    omega arith
-
-pub loop-i-preserved : goal.loop-i-preserved
-loop-i-preserved c =
-    let ws = held c.args.self.now in
-    let i = c.loop-i.i in
-    let s = c.args.side in
-    let k = c.loop-i.left in
-    let within : i < length ws = omega arith in
-    let inv : i + distance s k (drop i ws) ≡ distance s c.args.k ws = c.loop-i.invariant in
-    elim c.if-waits_for.branch [
-      | then-waits_for+else-left-eq0 w ↦ (let one : k ≡ suc (k - 1) = (let h = w.if-left-eq0.false in omega arith) in
-          let step : distance s k (drop i ws) ≡ suc (distance s (k - 1) (drop (i + 1) ws)) = ap (λ (n : ℕ). distance s n (drop i ws)) one ∙ distance_less s ws i within (k - 1) (sym w.if-waits_for.true ∙ c.waits_for.ensures) in
-          let now : i + 1 + distance s (k - 1) (drop (i + 1) ws) ≡ distance s c.args.k ws = omega arith in
-          subst (λ (n : ℕ). i + 1 + distance s n (drop (i + 1) ws) ≡ distance s c.args.k ws) (sym w.left-is) now)
-      | else-waits_for w ↦ (let step = distance_past s ws i within k (sym w.if-waits_for.false ∙ c.waits_for.ensures) in
-          let now : i + 1 + distance s k (drop (i + 1) ws) ≡ distance s c.args.k ws = omega arith in
-          subst (λ (n : ℕ). i + 1 + distance s n (drop (i + 1) ws) ≡ distance s c.args.k ws) (sym w.left-is) now)
-    ]
+pub returns : goal.returns
+returns c =
+    let s = c.args.self.now in
+    let side = c.args.side in
+    let k = c.args.k in
+    let none = c.count.result in
+    let parts = c.as_slices.result in
+    let all = YieldsList-from_enumerate (YieldsList-from_chain (YieldsList-from_slice parts.0.now cc) (YieldsList-from_slice parts.1.now cc) (cc) (cc)) (cc) in
+    let found : option_map (λ p. (p.0, p.1.now)) c.nth.result ≡ slice_get (numbered side 0 (parts.0.now ++ parts.1.now)) k =
+    nth_from_yields_List _ _ k c.nth.ensures.ran (YieldsList-from_filter _ (λ (q : ℕ × Record). same_side side q.1.side) all c.filter-places.ensures.closure (λ x r q k. search (rules, tests))) in
+    let answered : c.map_or.result ≡ option_map_or (λ (q : ℕ × Record). q.0) (option_map (λ p. (p.0, p.1.now)) c.nth.result) none = search rules in
+    answered
+    ∙ ap (λ (o : Option (ℕ × Record)). option_map_or (λ (q : ℕ × Record). q.0) o none) found
+    ∙ ap (λ (rs : List Record). place side 0 rs k none) (c.as_slices.ensures ∙ held_records s)
+    ∙ place_held side s k none c.count.ensures
