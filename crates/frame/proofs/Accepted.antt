@@ -1,6 +1,5 @@
 -- What is read is exactly the frame of the fields answered, and then padding.
 use Rattle.std.proofs.Common.{◌≡◌, ℕ, ◌+◌, ◌-◌, ◌<◌, ◌≤◌, true, false, eqb, List, [], ◌∷◌, ◌++◌, length, take, drop, Ok, sym, refl, ap, ◌∙◌, subst, arith, ltb-false, eqb-true}
-use borrow.Author.Tests.{eqb-false}
 use Rattle.std.proofs.lemmas.Bool.{not-false}
 use Rattle.std.proofs.lemmas.List.{take-append-drop, drop-drop, length-take-le, length-drop}
 use Rattle.frame.specs.declared.fault.FrameFault.TheVariants.{Header}
@@ -88,22 +87,14 @@ conn_carries bs f small passed next h =
     })
 
 one_of_two : (n a b : ℕ) → is_one_of n (a ∷ b ∷ []) ≡ true → eqb n a ≡ false → n ≡ b
-one_of_two n a b h other =
-    ways (eqb n a) _ _ true h (λ y _. absurd (let z : ◌≡◌ {A = ℕ} 0 1 = cc in omega arith))
-    (λ _ k. ways (eqb n b) _ _ true k (λ y _. eqb-true n b y) (λ _ z. absurd (let y : ◌≡◌ {A = ℕ} 0 1 = cc in omega arith)))
+one_of_two n a b h other = grind arith
 
 one_of_four : (n : ℕ) → is_one_of n (LAST ∷ NACK ∷ UDATA ∷ FRAG ∷ []) ≡ true → eqb n LAST ≡ false → eqb n NACK ≡ false → eqb n UDATA ≡ false → n ≡ FRAG
-one_of_four n h a b c =
-    ways (eqb n LAST) _ _ true h (λ y _. absurd (let z : ◌≡◌ {A = ℕ} 0 1 = cc in omega arith)) (λ _ h2.
-    ways (eqb n NACK) _ _ true h2 (λ y _. absurd (let z : ◌≡◌ {A = ℕ} 0 1 = cc in omega arith)) (λ _ h3.
-    one_of_two n UDATA FRAG h3 c))
+one_of_four n h a b c = grind arith
 
 -- Conn ID is not 0 where ACK follows.
 nonzero : (next to : ℕ) → next ≡ ACK → all (eqb next ACK ∷ eqb to 0 ∷ []) ≡ false → 0 < to
-nonzero next to e h =
-    ways (eqb next ACK) _ _ false h
-    (λ _ k. ways (eqb to 0) _ _ false k (λ _ z. absurd (let y : ◌≡◌ {A = ℕ} 0 1 = cc in omega arith)) (λ no' _. let ne : to ≡ 0 → ⊥ = eqb-false to 0 no' in omega arith))
-    (λ no' _. absurd (eqb-false next ACK no' e))
+nonzero next to e h = grind arith
 
 -- The frames that go on behind ACK. `w0` and `w1` are the words of MAIN and ACK.
 module _ (bs : List ℕ) (small : Bytes bs) where

@@ -11,10 +11,6 @@ abbrev pub NoneHolds : {E : Type 0} → Checks E → Type 0
 NoneHolds [] = Unit {0}
 NoneHolds (c ∷ cs) = (c.0 ≡ false) × NoneHolds cs
 
-pub judged_passes : {A E : Type 0} (cs : Checks E) (x : A) → NoneHolds cs → judged cs x ≡ Ok x
-judged_passes [] x h = refl
-judged_passes (c ∷ cs) x h = rw h.0 (judged_passes cs x h.1)
-
 pub judged_passed : {A E : Type 0} (cs : Checks E) (x y : A) → judged cs x ≡ Ok y → NoneHolds cs × (x ≡ y)
 judged_passed [] x y h = (tt, cc)
 judged_passed (c ∷ cs) x y h =
@@ -26,4 +22,4 @@ judged_passed (c ∷ cs) x y h =
 -- What was gone on with, where all went well.
 pub then_passed : {A B E F : Type 0} (up : E → F) (r : Result A E) (go : A → Result B F) (y : B) → then up r go ≡ Ok y → (x : A) × (r ≡ Ok x) × (go x ≡ Ok y)
 then_passed up (Ok x) go y h = (x, refl, h)
-then_passed up (Err e) go y h = let z : ◌≡◌ {A = ℕ} 0 1 = cc in absurd (omega arith)
+then_passed up (Err e) go y h = grind arith

@@ -1,4 +1,3 @@
-pub mod Laying
 pub mod Fitting
 pub mod Judging
 pub mod Rows

@@ -26,7 +26,7 @@ pub means : (bs : List ℕ) → Bytes bs → (r : Result Fields FrameFault) → 
 means bs small r h = record {
   reads_back = λ f c. h ∙ carried bs f c;
   accepted = λ f e. accepted bs small f (sym h ∙ e);
-  refused = λ x e f c. let z : ◌≡◌ {A = ℕ} 0 1 = let k = carried bs f c in cc in omega arith;
+  refused = λ x e f c. let k = carried bs f c in grind arith;
   no_frame = none bs small r (sym h);
   one = λ f g c d. let k = carried bs f c in let l = carried bs g d in cc;
 }

@@ -1,5 +1,5 @@
 -- Every set of fields in range reads back from its bytes, whatever lies behind.
-use Rattle.std.proofs.Common.{◌≡◌, ℕ, ◌+◌, ◌-◌, ◌<◌, ◌≤◌, Bool, true, false, eqb, List, [], ◌∷◌, ◌++◌, length, take, Ok, Result, refl, ap, ◌∙◌, arith, lit<, ne_eqb}
+use Rattle.std.proofs.Common.{◌≡◌, ℕ, ◌+◌, ◌-◌, ◌<◌, ◌≤◌, true, false, eqb, List, [], ◌∷◌, ◌++◌, length, take, Ok, Result, refl, ap, ◌∙◌, arith, lit<}
 use Rattle.std.proofs.lemmas.List.{take_at, length-append}
 use Rattle.frame.specs.declared.fault.FrameFault.{FrameFault}
 use Rattle.frame.specs.declared.fault.FrameFault.TheVariants.{Header}
@@ -7,12 +7,12 @@ use Rattle.frame.specs.declared.fault.HeaderFault.{HeaderFault}
 use Rattle.frame.specs.Numbers.{CONN, UDATA, ACK, NACK, FRAG, LAST}
 use Rattle.frame.specs.Fields.{HeadFields, Fields, conn, ack, nack, udata, frag}
 use Rattle.frame.specs.Layout.{packed, main_row, conn_row, ack_row, nack_row, frag_row, address_row, big_endian, bytes}
-use Rattle.frame.specs.Ranges.{all, within, head_fits, count_fits, in_range}
+use Rattle.frame.specs.Ranges.{all, count_fits, in_range}
 use Rattle.frame.specs.Checks.{judged, then}
 use Rattle.frame.specs.Reader.{MainFields, AckFields, word_at, field, is_one_of, main_checks, main_word, main_of, conn_checks, ack_checks, ack_word, ack_of, nack_checks, udata_checks, frag_checks, behind_ack, behind_main, frame_of}
 use Rattle.frame.proofs.Rows.{Fit, packed_below, packed_stand}
 use Rattle.frame.proofs.Words.{word_laid}
-use Rattle.frame.proofs.Fitting.{each_true, is_within, HeadFacts, head_fits_is, conn_fits_is, udata_below, frag_below, udata_fits_is, frag_fits_is}
+use Rattle.frame.proofs.Fitting.{HeadFacts, head_fits_is, conn_fits_is, udata_below, frag_below, udata_fits_is, frag_fits_is}
 use Rattle.frame.proofs.Passing.{main_passes, conn_passes, ack_passes, nack_passes, udata_passes, frag_passes}
 
 -- Header after header.
@@ -46,7 +46,7 @@ start : (next size : ℕ) → HeadFields → List ℕ → List ℕ
 start next size h rest = big_endian (packed (main_row ACK h.to size)) ++ (big_endian (packed (ack_row next h)) ++ rest)
 
 addressed : (h : HeadFields) → HeadFacts h → all (eqb ACK ACK ∷ eqb h.to 0 ∷ []) ≡ false
-addressed h k = ap (λ (b : Bool). all (b ∷ [])) (ne_eqb h.to 0 (λ e. omega arith))
+addressed h k = grind arith
 
 module _ (next size : ℕ) (h : HeadFields) (rest : List ℕ) (k : HeadFacts h) (low : next < 16) (follows : is_one_of next (LAST ∷ NACK ∷ UDATA ∷ FRAG ∷ []) ≡ true) (few : size < 32768) (eight : 8 ≤ size) (room : size ≤ 8 + length rest) where
   headed : (f : Fields) → behind_ack (start next size h rest) (record { next = ACK; to = h.to; size = size }) (record { next = next; head = h }) ≡ Ok f → frame_of (start next size h rest) ≡ Ok f
@@ -71,12 +71,12 @@ ack_reads h pad fits = headed LAST 8 h pad (head_fits_is h fits) (lit< tt) refl 
 nack_reads : (h : HeadFields) (count from : ℕ) (pad : List ℕ) → in_range (nack h count from) ≡ true → frame_of (bytes (nack h count from) ++ pad) ≡ Ok (nack h count from)
 unfolding start
 nack_reads h count from pad fits =
-    let t = each_true (head_fits h ∷ count_fits count ∷ within 0 4095 from ∷ []) fits in
-    let fit : Fit (nack_row count from) = (lit< tt, (lit< tt, (omega (arith, is_within 1 31 count t.1.0), (lit< tt, (omega (arith, is_within 0 4095 from t.1.1.0), tt))))) in
+    let counted : count_fits count ≡ true = grind arith in
+    let fit : Fit (nack_row count from) = (lit< tt, (lit< tt, (grind arith, (lit< tt, (grind arith, tt))))) in
     let w : ℕ = packed (nack_row count from) in
-    headed NACK 12 h (big_endian w ++ pad) (head_fits_is h t.0) (lit< tt) refl (lit< tt) (omega arith) (omega arith) (nack h count from)
+    headed NACK 12 h (big_endian w ++ pad) (head_fits_is h (grind arith)) (lit< tt) refl (lit< tt) (omega arith) (omega arith) (nack h count from)
     (ap (λ (v : ℕ). judged (nack_checks (record { next = ACK; to = h.to; size = 12 }) v) (nack h (field v 16 8) (field v 0 12))) (word_laid w pad (packed_below (nack_row count from) fit))
-    ∙ nack_passes w h count from (packed_stand (nack_row count from) fit) t.1.0)
+    ∙ nack_passes w h count from (packed_stand (nack_row count from) fit) counted)
 
 -- The payload before the padding.
 payload_read : (n : ℕ) (p pad : List ℕ) → take (n + length p - n) (p ++ pad) ≡ p

@@ -10,7 +10,7 @@ pub fn linx_frame_read(bytes: &[u8]) -> u32
     ensures { result ≡ code (frame_of bytes.now) }
 {
     match read(bytes) {
-        Ok(frame) => u32::from(frame.kind().number()),
-        Err(fault) => u32::from(fault.cause().number()) * 256 + u32::from(fault.place()),
+        Ok(frame) => u32::from(u8::from(frame.kind())),
+        Err(fault) => u32::from(u8::from(fault.cause())) * 256 + u32::from(fault.place()),
     }
 }

@@ -1,41 +1,37 @@
 //! Why bytes are no frame: the cause, the place of the header at fault, and the layer that noticed.
-ghost use Rattle.std.specs.Prelude.{◌≡◌};
+ghost use Rattle.std.specs.Prelude.{◌≡◌, Some};
 ghost use Rattle.frame.specs.Numbers.{cause_number};
-ghost use Rattle.frame.specs.Faults.{at as at_place, cause_of, place_of, layer_of};
+ghost use Rattle.frame.specs.Faults.{at as at_place, cause_of, place_of, layer_of, layer_text, fault_text};
 ghost use Rattle.frame.specs.declared.fault.FrameFault.TheVariants.{Header};
 
-/// What is wrong.
-#[derive(Clone, Copy)]
+use std::{error, fmt};
+
+/// What is wrong, with its number.
+#[derive(Debug, Clone, Copy, PartialEq, Eq)]
 pub enum Cause {
     /// Fewer bytes than four, or than the packet size says.
-    Short,
+    Short = 20,
     /// Ver is not 3.
-    Version,
+    Version = 21,
     /// A reserved bit is set.
-    Reserved,
+    Reserved = 22,
     /// Next names no header that may follow here.
-    Next,
+    Next = 23,
     /// The packet size fits no frame of this form.
-    Size,
+    Size = 24,
     /// A field lies outside its range.
-    Range,
+    Range = 25,
+}
+
+impl From<Cause> for u8 {
+    ghost from_gives = { λ cause n. n ≡ cause_number cause };
+
+    fn from(cause: Cause) -> u8 {
+        cause as u8
+    }
 }
 
 impl Cause {
-    /// Its number, 20 to 25.
-    pub fn number(self) -> u8
-        ensures { result ≡ cause_number self }
-    {
-        match self {
-            Cause::Short => 20,
-            Cause::Version => 21,
-            Cause::Reserved => 22,
-            Cause::Next => 23,
-            Cause::Size => 24,
-            Cause::Range => 25,
-        }
-    }
-
     /// The fault of a header at a place.
     pub(crate) fn at(self, place: u8) -> HeaderFault
         ensures { result ≡ at_place place self }
@@ -45,7 +41,7 @@ impl Cause {
 }
 
 /// Who noticed.
-#[derive(Clone, Copy)]
+#[derive(Debug, Clone, Copy, PartialEq, Eq)]
 pub enum Layer {
     /// MAIN, which speaks of the whole frame.
     Frame,
@@ -53,8 +49,19 @@ pub enum Layer {
     Header,
 }
 
+impl fmt::Display for Layer {
+    ghost output = { λ layer. Some (layer_text layer) };
+
+    fn fmt<W: fmt::Write>(&self, f: &mut fmt::Formatter<W>) -> fmt::Result {
+        f.write_str(match self {
+            Layer::Frame => "frame",
+            Layer::Header => "header",
+        })
+    }
+}
+
 /// A fault in a header behind MAIN.
-#[derive(Clone, Copy)]
+#[derive(Debug, Clone, Copy, PartialEq, Eq)]
 pub struct HeaderFault {
     pub cause: Cause,
     /// The byte at which the header begins.
@@ -62,7 +69,7 @@ pub struct HeaderFault {
 }
 
 /// Why bytes are no frame.
-#[derive(Clone, Copy)]
+#[derive(Debug, Clone, Copy, PartialEq, Eq)]
 pub enum FrameFault {
     /// In MAIN, at byte 0.
     Main(Cause),
@@ -109,3 +116,16 @@ impl From<HeaderFault> for FrameFault {
         FrameFault::Header(fault)
     }
 }
+
+impl fmt::Display for FrameFault {
+    ghost output = { λ fault. Some (fault_text fault) };
+
+    fn fmt<W: fmt::Write>(&self, f: &mut fmt::Formatter<W>) -> fmt::Result {
+        let cause = u8::from(self.cause());
+        let place = self.place();
+        let layer = self.layer();
+        write!(f, "fault {cause} place {place} layer {layer}")
+    }
+}
+
+impl error::Error for FrameFault {}

@@ -1,13 +1,16 @@
 //! The fields of a frame, as types that say what they are.
-ghost use Rattle.std.specs.Prelude.{◌≡◌};
-ghost use Rattle.frame.specs.Numbers.{type_number, type_of};
+ghost use Rattle.std.specs.Prelude.{◌≡◌, Some};
+ghost use Rattle.frame.specs.Numbers.{type_number, type_or_number, no_type_text};
+
+use std::error::Error;
+use std::fmt;
 
 /// A connection number: 1 to 255, and 0 where there is none.
-#[derive(Clone, Copy)]
+#[derive(Debug, Clone, Copy, PartialEq, Eq)]
 pub struct ConnId(pub u8);
 
 /// A sequence number: 0 to 4,095.
-#[derive(Clone, Copy)]
+#[derive(Debug, Clone, Copy, PartialEq, Eq)]
 pub struct SeqNo(pub u16);
 
 impl SeqNo {
@@ -16,55 +19,66 @@ impl SeqNo {
 }
 
 /// A window exponent w, 0 to 5: the window is 2^w pieces.
-#[derive(Clone, Copy)]
+#[derive(Debug, Clone, Copy, PartialEq, Eq)]
 pub struct WindowExponent(pub u8);
 
 impl WindowExponent {
     pub const MAX: u8 = 5;
 }
 
-/// What a CONN frame does.
-#[derive(Clone, Copy)]
+/// What a CONN frame does, with its number in the Type field.
+#[derive(Debug, Clone, Copy, PartialEq, Eq)]
 pub enum ConnType {
     /// Asks for a connection and publishes the sender's number.
-    Connect,
+    Connect = 1,
     /// Agrees, and publishes the sender's number in turn.
-    ConnectAck,
+    ConnectAck = 2,
     /// Confirms that the agreement arrived.
-    Ack,
+    Ack = 3,
     /// Ends the connection.
-    Reset,
+    Reset = 4,
 }
 
-impl ConnType {
-    /// Its number in the Type field.
-    pub fn number(self) -> u8
-        ensures { result ≡ type_number self }
-    {
-        match self {
-            ConnType::Connect => 1,
-            ConnType::ConnectAck => 2,
-            ConnType::Ack => 3,
-            ConnType::Reset => 4,
-        }
-    }
+/// A number that no type of CONN frame has.
+#[derive(Debug, Clone, Copy, PartialEq, Eq)]
+pub struct UnknownType(pub u8);
 
-    /// The type that a number stands for.
-    pub fn from_number(number: u8) -> Option<ConnType>
-        ensures { result ≡ type_of number }
-    {
+impl fmt::Display for UnknownType {
+    ghost output = { λ unknown. Some (no_type_text unknown.0) };
+
+    fn fmt<W: fmt::Write>(&self, f: &mut fmt::Formatter<W>) -> fmt::Result {
+        write!(f, "no type has the number {}", self.0)
+    }
+}
+
+impl Error for UnknownType {}
+
+impl From<ConnType> for u8 {
+    ghost from_gives = { λ kind n. n ≡ type_number kind };
+
+    fn from(kind: ConnType) -> u8 {
+        kind as u8
+    }
+}
+
+impl TryFrom<u8> for ConnType {
+    type Error = UnknownType;
+
+    ghost try_from_gives = { λ n r. r ≡ type_or_number n };
+
+    fn try_from(number: u8) -> Result<ConnType, UnknownType> {
         match number {
-            1 => Some(ConnType::Connect),
-            2 => Some(ConnType::ConnectAck),
-            3 => Some(ConnType::Ack),
-            4 => Some(ConnType::Reset),
-            _ => None,
+            1 => Ok(ConnType::Connect),
+            2 => Ok(ConnType::ConnectAck),
+            3 => Ok(ConnType::Ack),
+            4 => Ok(ConnType::Reset),
+            _ => Err(UnknownType(number)),
         }
     }
 }
 
 /// Where a piece stands in its message.
-#[derive(Clone, Copy)]
+#[derive(Debug, Clone, Copy, PartialEq, Eq)]
 pub struct Fragment {
     /// M: more pieces follow.
     pub more: bool,
@@ -81,7 +95,7 @@ impl Fragment {
 }
 
 /// The fields that ACK, NACK, UDATA and FRAG frames begin with.
-#[derive(Clone, Copy)]
+#[derive(Debug, Clone, Copy, PartialEq, Eq)]
 pub struct Head {
     /// Conn ID: the receiver's connection number.
     pub to: ConnId,

@@ -1,8 +1,9 @@
 //! The five forms of a frame.
-ghost use Rattle.std.specs.Prelude.{◌≡◌, ◌^◌, ◌<◌};
+ghost use Rattle.std.specs.Prelude.{◌≡◌};
 ghost use Rattle.frame.specs.Fields.{fields};
 ghost use Rattle.frame.specs.Layout.{size};
 ghost use Rattle.frame.specs.Kinds.{kind_number, kind_of};
+ghost use Rattle.frame.specs.Numbers.{type_number};
 
 use crate::fields::{ConnId, ConnType, Fragment, Head, SeqNo, WindowExponent};
 
@@ -10,7 +11,7 @@ use crate::fields::{ConnId, ConnType, Fragment, Head, SeqNo, WindowExponent};
 pub const PIECE: usize = 256;
 
 /// A frame, with the payload as a part of the bytes it was read from.
-#[derive(Clone, Copy)]
+#[derive(Debug, Clone, Copy, PartialEq, Eq)]
 pub enum Frame<'a> {
     /// MAIN CONN: sets a connection up or ends it.
     Conn {
@@ -45,33 +46,36 @@ pub enum Frame<'a> {
     },
 }
 
-/// What a frame is: the type of a CONN frame, else its last header.
-#[derive(Clone, Copy)]
+/// What a frame is: the type of a CONN frame, else its last header. A caller from C is told the number.
+#[derive(Debug, Clone, Copy, PartialEq, Eq)]
 pub enum Kind {
-    Connect,
-    ConnectAck,
-    ConnAck,
-    Reset,
-    Ack,
-    Nack,
-    Udata,
-    Frag,
+    Connect = 1,
+    ConnectAck = 2,
+    ConnAck = 3,
+    Reset = 4,
+    Ack = 5,
+    Nack = 6,
+    Udata = 7,
+    Frag = 8,
 }
 
-impl Kind {
-    /// The number that a caller from C is told.
-    pub fn number(self) -> u8
-        ensures { result ≡ kind_number self }
-    {
-        match self {
-            Kind::Connect => 1,
-            Kind::ConnectAck => 2,
-            Kind::ConnAck => 3,
-            Kind::Reset => 4,
-            Kind::Ack => 5,
-            Kind::Nack => 6,
-            Kind::Udata => 7,
-            Kind::Frag => 8,
+impl From<Kind> for u8 {
+    ghost from_gives = { λ kind n. n ≡ kind_number kind };
+
+    fn from(kind: Kind) -> u8 {
+        kind as u8
+    }
+}
+
+impl From<ConnType> for Kind {
+    ghost from_gives = { λ t kind. kind_number kind ≡ type_number t };
+
+    fn from(kind: ConnType) -> Kind {
+        match kind {
+            ConnType::Connect => Kind::Connect,
+            ConnType::ConnectAck => Kind::ConnectAck,
+            ConnType::Ack => Kind::ConnAck,
+            ConnType::Reset => Kind::Reset,
         }
     }
 }
@@ -82,12 +86,7 @@ impl Frame<'_> {
         ensures { kind_number result ≡ kind_of (fields self.entry) }
     {
         match self {
-            Frame::Conn { kind, .. } => match kind {
-                ConnType::Connect => Kind::Connect,
-                ConnType::ConnectAck => Kind::ConnectAck,
-                ConnType::Ack => Kind::ConnAck,
-                ConnType::Reset => Kind::Reset,
-            },
+            Frame::Conn { kind, .. } => Kind::from(kind),
             Frame::Ack { .. } => Kind::Ack,
             Frame::Nack { .. } => Kind::Nack,
             Frame::Udata { .. } => Kind::Udata,

@@ -14,7 +14,7 @@ mod writer;
 
 pub use dock::linx_frame_read;
 pub use fault::{Cause, FrameFault, HeaderFault, Layer};
-pub use fields::{ConnId, ConnType, Fragment, Head, SeqNo, WindowExponent};
+pub use fields::{ConnId, ConnType, Fragment, Head, SeqNo, UnknownType, WindowExponent};
 pub use form::{Frame, Kind, PIECE};
 pub use lines::worked_frames_hold;
 pub use reader::read;

@@ -34,7 +34,7 @@ fn head_fits(head: Head) -> bool
 pub(crate) fn count_fits(count: u8) -> bool
     ensures { result ≡ count_fits count }
 {
-    1 <= count && count <= 31
+    (1..=31).contains(&count)
 }
 
 /// UDATA carries a whole message or the first of several pieces.
@@ -53,9 +53,9 @@ pub(crate) fn frag_fits(fragment: Fragment) -> bool
     ensures { result ≡ frag_fits (bit fragment.more) fragment.number }
 {
     if fragment.more {
-        1 <= fragment.number && fragment.number < Fragment::LAST
+        (1..Fragment::LAST).contains(&fragment.number)
     } else {
-        1 <= fragment.number && fragment.number <= Fragment::LAST
+        (1..=Fragment::LAST).contains(&fragment.number)
     }
 }
 
@@ -66,7 +66,7 @@ pub(crate) fn length_fits(least: usize, more: bool, length: usize) -> bool
     if more {
         length == PIECE
     } else {
-        least <= length && length <= PIECE
+        (least..=PIECE).contains(&length)
     }
 }
 

@@ -2,6 +2,5 @@ use Rattle.std.proofs.Common.{arith}
 use Rattle.frame.proofs.Meaning.{means}
 use Rattle.frame.proofs.reader.read.Goals as goal
 
-pub returns : goal.returns
-returns c =
-    record { value = c.parse.ensures; meaning = means c.args.bytes.now (λ i. omega (arith, c.type_inv.bytes i)) _ c.parse.ensures }
+pub returns-clause-meaning : goal.returns-clause-meaning
+returns-clause-meaning c = means c.args.bytes.now (λ i. omega (arith, c.type_inv.bytes i)) _ c.parse.ensures
