@@ -1,5 +1,5 @@
 -- What writing into a place that holds every frame answers.
-use Rattle.std.proofs.Common.{◌≡◌, ℕ, ◌≤◌, Bool, true, false, cond, not, ltb, List, [], ◌∷◌, ◌++◌, length, take, drop, Some, Ok, Err, codes, Result, sym, refl, ap, ◌∙◌, arith}
+use Rattle.std.proofs.Common.{◌≡◌, ℕ, ◌≤◌, Bool, true, false, not, ltb, List, [], ◌∷◌, ◌++◌, length, take, drop, Some, Ok, Err, codes, Result, sym, refl, ap, ◌∙◌, arith}
 use Rattle.std.proofs.lemmas.List.{take_at, append-nil}
 use Rattle.std.proofs.lemmas.Bool.Decides.{nat_tests}
 use Rattle.frame.specs.declared.writer.Refusal.{Refusal}
@@ -36,14 +36,10 @@ abbrev judgement : Bool → Bool → ℕ → Result ℕ Refusal
 judgement fits short n = judged ((not fits, Range) ∷ (short, Room) ∷ []) n
 
 judged_ok : (fits short : Bool) (m n : ℕ) → judgement fits short m ≡ Ok n → (fits ≡ true) × (n ≡ m)
-judged_ok true true m n e = let z : ◌≡◌ {A = ℕ} 0 1 = cc in absurd (omega arith)
-judged_ok true false m n e = (refl, cc)
-judged_ok false short m n e = let z : ◌≡◌ {A = ℕ} 0 1 = cc in absurd (omega arith)
+judged_ok fits short m n e = grind arith
 
 judged_err : (fits short : Bool) (m : ℕ) (e : Refusal) → judgement fits short m ≡ Err e → (fits ≡ true → short ≡ false) → fits ≡ false
-judged_err true true m e h enough = let z : true ≡ false = enough refl in let y : ◌≡◌ {A = ℕ} 0 1 = cc in absurd (omega arith)
-judged_err true false m e h enough = let z : ◌≡◌ {A = ℕ} 0 1 = cc in absurd (omega arith)
-judged_err false short m e h enough = refl
+judged_err fits short m e h enough = grind arith
 
 module _ (f : Fields) (place : List ℕ) (r : Result ℕ Refusal) (is : r ≡ written f place) (room : 276 ≤ length place) where
   pub accepted : (n : ℕ) → r ≡ Ok n → (in_range f ≡ true) × (n ≡ size f) × (n ≤ length place)
@@ -63,19 +59,12 @@ module _ (f : Fields) (place : List ℕ) (r : Result ℕ Refusal) (is : r ≡ wr
       let long : length (bytes f) ≡ n = length_bytes f ∙ sym (accepted n ok).1 in
       ap (take n) here ∙ take_at (bytes f) (drop n place) n long
 
--- The text of the bytes written, and of none.
-pub written_text : (f : Fields) (bs text : List ℕ) → in_range f ≡ true → bs ≡ bytes f → text ≡ hexed bs → codes "write -> " ++ text ≡ write_text f
-written_text f bs text fits e h =
-    ap (λ (l : List ℕ). codes "write -> " ++ l) (h ∙ ap hexed e ∙ ap (λ (b : Bool). cond b (hexed (bytes f)) (codes "none")) (sym fits))
-
-pub none_text : (f : Fields) → in_range f ≡ false → codes "write -> none" ≡ write_text f
-none_text f out = ap (λ (b : Bool). codes "write -> " ++ cond b (hexed (bytes f)) (codes "none")) (sym out)
+-- The text of the bytes written.
+pub written_text : (f : Fields) (bs : List ℕ) → in_range f ≡ true → bs ≡ bytes f → codes "write -> " ++ hexed bs ≡ write_text f
+written_text f bs fits e = rw (fits, e) refl
 
 -- Bytes that say the frame of fields in range print the form of these fields.
-pub again : (f : Fields) (bs text : List ℕ) → bs ≡ bytes f → said_by (codes "read " ++ text) ≡ Ok (read bs) → ReadsBack f (codes "write -> " ++ text)
+pub again : (f : Fields) (bs text : List ℕ) → bs ≡ bytes f → said_by (codes "read " ++ drop 9 text) ≡ Ok (read bs) → ReadsBack f text
 again f bs text e h range n =
     let frame : frame_of bs ≡ Ok f = ap frame_of (e ∙ sym (append-nil (bytes f))) ∙ reads_back f [] range in
     ap (printed n) h ∙ ap (λ (r : Result Fields FrameFault). Some (read_text r)) frame
-
-pub none_again : (f : Fields) (text : List ℕ) → in_range f ≡ false → ReadsBack f text
-none_again f text out range = absurd (let z : ◌≡◌ {A = ℕ} 0 1 = cc in omega arith)

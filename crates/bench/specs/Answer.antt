@@ -1,26 +1,15 @@
 -- What the bench prints for a line.
 use Rattle.std.specs.Prelude.{◌≡◌, ℕ, true, cond, List, [], ◌∷◌, ◌++◌, drop, Some, None, Ok, Err, codes, decimal, Option, Result}
 use Rattle.frame.specs.Fields.{Fields}
-use Rattle.frame.specs.Faults.{cause_of, place_of, layer_of}
-use Rattle.frame.specs.Numbers.{cause_number}
+use Rattle.frame.specs.Faults.{fault_text}
 use Rattle.frame.specs.Kinds.{code}
 use Rattle.frame.specs.Layout.{bytes}
 use Rattle.frame.specs.Ranges.{in_range}
 use Rattle.frame.specs.Reader.{frame_of}
 use Rattle.frame.specs.declared.fault.FrameFault.{FrameFault}
-use Rattle.frame.specs.declared.fault.Layer.{Layer}
-use Rattle.frame.specs.declared.fault.Layer.TheVariants.{Frame, Header}
 use Rattle.scenario.specs.Form.{line, form_text}
 use Rattle.scenario.specs.Hex.{hexed}
 use Rattle.scenario.specs.Lines.{Said, nothing, read, cread, write, said_by}
-
-abbrev pub layer_text : Layer → List ℕ
-layer_text Frame = codes "frame"
-layer_text Header = codes "header"
-
-abbrev pub fault_text : FrameFault → List ℕ
-fault_text e =
-    line (codes "fault " ∷ decimal (cause_number (cause_of e)) ∷ codes " place " ∷ decimal (place_of e) ∷ codes " layer " ∷ layer_text (layer_of e) ∷ [])
 
 -- What was read, or why nothing was.
 abbrev pub read_text : Result Fields FrameFault → List ℕ

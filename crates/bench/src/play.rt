@@ -1,51 +1,28 @@
 //! Plays the lines of a scenario and answers each call.
-ghost use Rattle.std.specs.Prelude.{◌≡◌, ◌+◌, ◌-◌, ◌^◌, ◌≤◌, min, length, IfOk, string_bytes};
+ghost use Rattle.std.specs.Prelude.{◌≡◌, ◌+◌, ◌-◌, ◌^◌, ◌≤◌, ◌++◌, min, length, drop, IfOk, Ok, string_bytes, codes};
 ghost use Rattle.std.specs.Option.{option_map};
 ghost use Rattle.frame.specs.Fields.{fields, answer};
 ghost use Rattle.frame.specs.Reader.{frame_of};
 ghost use Rattle.scenario.specs.Draft.{fields_of};
-ghost use Rattle.scenario.specs.Lines.{said, said_by};
-ghost use Rattle.bench.specs.Answer.{fault_text, layer_text, read_text, cread_text, write_text, answer_of, wrong_line, printed, ReadsBack, WritesBack};
+ghost use Rattle.scenario.specs.Hex.{hexed};
+ghost use Rattle.scenario.specs.Lines.{read, said, said_by};
+ghost use Rattle.bench.specs.Answer.{read_text, cread_text, write_text, answer_of, wrong_line, printed, ReadsBack, WritesBack};
 ghost use Rattle.scenario.specs.Wrong.{wrong_text};
 
-use frame::{Frame, FrameFault, Layer};
-use scenario::{Draft, Line, Stop, Wrong, form_text, to_hex};
+use frame::{Frame, FrameFault};
+use scenario::{Draft, Form, Hex, Line, Stop, Wrong};
 use std::alloc::{AllocError, Global};
 
 /// The longest frame: 20 bytes of headers and 256 of payload.
 const LONGEST: usize = 276;
-
-fn layer_name(layer: Layer) -> &'static str
-    ensures { result.now ≡ layer_text layer }
-{
-    match layer {
-        Layer::Frame => "frame",
-        Layer::Header => "header",
-    }
-}
-
-fn fault_text(heap: Global, fault: FrameFault) -> Result<String, AllocError>
-    ensures { IfOk result (λ s. string_bytes s ≡ fault_text fault) }
-{
-    let cause = fault.cause().number();
-    let place = fault.place();
-    let layer = layer_name(fault.layer());
-    format!(in heap; "fault {cause} place {place} layer {layer}")
-}
 
 // The text of what the reader answered.
 fn read_text(heap: Global, read: Result<Frame, FrameFault>) -> Result<String, AllocError>
     ensures { IfOk result (λ s. string_bytes s ≡ read_text (answer read.entry)) }
 {
     match read {
-        Ok(frame) => {
-            let form = form_text(heap, frame)?;
-            format!(in heap; "read -> {form}")
-        }
-        Err(fault) => {
-            let fault = fault_text(heap, fault)?;
-            format!(in heap; "read -> {fault}")
-        }
+        Ok(frame) => format!(in heap; "read -> {}", Form(frame)),
+        Err(fault) => format!(in heap; "read -> {fault}"),
     }
 }
 
@@ -61,8 +38,15 @@ fn read_line(heap: Global, bytes: &[u8]) -> Result<String, AllocError>
 fn cread_line(heap: Global, bytes: &[u8]) -> Result<String, AllocError>
     ensures { IfOk result (λ s. string_bytes s ≡ cread_text bytes.now) }
 {
-    let code = frame::linx_frame_read(bytes);
-    format!(in heap; "cread -> {code}")
+    format!(in heap; "cread -> {}", frame::linx_frame_read(bytes))
+}
+
+// Bytes that were written. Typed behind `read`, what is printed says the same bytes.
+fn bytes_line(heap: Global, bytes: &[u8]) -> Result<String, AllocError>
+    ensures value { IfOk result (λ s. string_bytes s ≡ codes "write -> " ++ hexed bytes.now) }
+    ensures typed { IfOk result (λ s. said_by (codes "read " ++ drop 9 (string_bytes s)) ≡ Ok (read bytes.now)) }
+{
+    format!(in heap; "write -> {}", Hex(bytes))
 }
 
 // The frame's bytes, by way of a place that holds every frame.
@@ -72,10 +56,7 @@ fn frame_line(heap: Global, frame: Frame, place: &mut [u8]) -> Result<String, Al
     ensures reads_back { IfOk result (λ s. ReadsBack (fields frame.entry) (string_bytes s)) }
 {
     match frame::write(frame, place) {
-        Ok(length) => {
-            let bytes = to_hex(heap, &place[0..length])?;
-            format!(in heap; "write -> {bytes}")
-        }
+        Ok(length) => bytes_line(heap, &place[..length]),
         Err(_) => String::from_str(heap, "write -> none"),
     }
 }
@@ -118,6 +99,7 @@ pub struct Player {
 }
 
 impl Player {
+    /// No line was played yet.
     pub fn new() -> Player
         ensures { result.lines ≡ 0 }
     {

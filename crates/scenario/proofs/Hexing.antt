@@ -1,29 +1,15 @@
 -- Bytes laid out as text, and the text read back.
-use Rattle.std.proofs.Common.{◌≡◌, ℕ, suc, ◌+◌, ◌-◌, ◌*◌, ◌/◌, ◌%◌, ◌<◌, ◌≤◌, List, [], ◌∷◌, ◌++◌, length, get_or, take, drop, Some, None, Option, sym, refl, ap, ◌∙◌, append_assoc, arith}
+use Rattle.std.proofs.Common.{◌≡◌, ℕ, suc, ◌-◌, ◌/◌, ◌%◌, ◌<◌, ◌≤◌, List, [], ◌∷◌, ◌++◌, length, get_or, take, drop, Some, None, Option, sym, refl, ap, ◌∙◌, append_assoc, arith}
 use Rattle.std.specs.List.{flat_map}
-use Rattle.std.proofs.lemmas.List.{take_more, take_all, flat_map_more}
+use Rattle.std.proofs.lemmas.List.{take_all}
 use Rattle.std.proofs.lemmas.Bool.Decides.{nat_tests}
 use Rattle.scenario.specs.Hex.{digit_of, pair_of, hexed, nibble_of, byte_of, before, and_then, paired, unhexed}
-
-pub two_pushed : (s : List ℕ) (b d e : ℕ) → d ≡ digit_of (b / 16) → e ≡ digit_of (b % 16) → (s ++ (d ∷ [])) ++ (e ∷ []) ≡ s ++ pair_of b
-two_pushed s b d e p q = append_assoc s (d ∷ []) (e ∷ []) ∙ ap (λ (x : ℕ). s ++ (x ∷ e ∷ [])) p ∙ ap (λ (x : ℕ). s ++ (digit_of (b / 16) ∷ x ∷ [])) q
-
-pub pairs_more : (bs : List ℕ) (i : ℕ) → i < length bs → flat_map pair_of (take (i + 1) bs) ≡ flat_map pair_of (take i bs) ++ pair_of (get_or bs i 0)
-pairs_more bs i h = ap (flat_map pair_of) (take_more bs i 0 h) ∙ sym (flat_map_more pair_of [] (take i bs) (get_or bs i 0))
-
-pub pairs_all : (bs : List ℕ) → 0 < length bs → flat_map pair_of (take (length bs) bs) ≡ hexed bs
-pairs_all [] h = absurd (omega arith)
-pairs_all (b ∷ bs) h = ap (flat_map pair_of) (take_all (length (b ∷ bs)) (b ∷ bs) (omega arith))
 
 nibble_digit : (n : ℕ) → n < 16 → nibble_of (digit_of n) ≡ Some n
 nibble_digit n h = grind (arith, nat_tests)
 
 byte_pair : (b : ℕ) → b < 256 → byte_of (nibble_of (digit_of (b / 16))) (nibble_of (digit_of (b % 16))) ≡ Some b
-byte_pair b h =
-    let high : nibble_of (digit_of (b / 16)) ≡ Some (b / 16) = nibble_digit (b / 16) (omega arith) in
-    let low : nibble_of (digit_of (b % 16)) ≡ Some (b % 16) = nibble_digit (b % 16) (omega arith) in
-    let whole : b / 16 * 16 + b % 16 ≡ b = omega arith in
-    rw (high, low) (ap (λ (n : ℕ). Some n) whole)
+byte_pair b h = rw (nibble_digit (b / 16) (omega arith), nibble_digit (b % 16) (omega arith)) (ap (λ (n : ℕ). Some n) (omega arith))
 
 -- Each is a byte.
 abbrev Bytes : List ℕ → Type 0
@@ -43,19 +29,10 @@ pub unhexed_hexed : (bs : List ℕ) → ((i : ℕ) → get_or bs i 0 < 256) → 
 unhexed_hexed [] h = refl
 unhexed_hexed (b ∷ bs) h = paired_back (b ∷ bs) (bytes_from (b ∷ bs) h)
 
-pub hexed_none : (bs : List ℕ) → length bs ≡ 0 → 45 ∷ [] ≡ hexed bs
-hexed_none [] h = refl
-hexed_none (b ∷ bs) h = absurd (omega arith)
-
 pub two_first : (bs : List ℕ) → 2 ≤ length bs → bs ≡ get_or bs 0 0 ∷ get_or bs 1 0 ∷ take (length bs - 2) (drop 2 bs)
 two_first [] h = absurd (omega arith)
 two_first (a ∷ []) h = absurd (omega arith)
 two_first (a ∷ b ∷ bs) h = ap (λ (l : List ℕ). a ∷ b ∷ l) (sym (take_all (length (a ∷ b ∷ bs) - 2) bs (omega arith)))
-
-pub long_unhexed : (bs : List ℕ) → 2 ≤ length bs → unhexed bs ≡ paired bs
-long_unhexed [] h = absurd (omega arith)
-long_unhexed (c ∷ []) h = absurd (omega arith)
-long_unhexed (c ∷ d ∷ bs) h = refl
 
 -- Bytes read one after the other.
 before_before : (xs ys : List ℕ) (o : Option (List ℕ)) → before xs (before ys o) ≡ before (xs ++ ys) o

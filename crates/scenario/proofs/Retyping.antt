@@ -1,5 +1,5 @@
 -- The text of a form, typed behind `write`, says the fields it was made of.
-use Rattle.std.proofs.Common.{◌≡◌, ℕ, ◌^◌, ◌<◌, ◌≤◌, min, true, false, eqb, ltb, List, [], ◌∷◌, ◌++◌, length, get_or, Some, None, Ok, codes, decimal, Option, ap, ◌∙◌, arith, lt-ltb, ne_eqb}
+use Rattle.std.proofs.Common.{◌≡◌, ℕ, ◌^◌, ◌<◌, ◌≤◌, true, List, [], ◌∷◌, ◌++◌, length, get_or, Some, None, Ok, codes, decimal, ap, ◌∙◌, arith, lt-ltb, ne_eqb}
 use Rattle.std.specs.Str.Parse.{digits_value}
 use Rattle.std.specs.Str.{all_ascii_digits}
 use Rattle.std.proofs.lemmas.Str.Parse.{IsNumeralModel, numerals_by_value, tells_all_ascii_digits, digit_at}
@@ -7,7 +7,7 @@ use Rattle.std.proofs.lemmas.Fmt.{decimal_is_IsNumeral, decimal_nonempty, digits
 use Rattle.frame.specs.Fields.{HeadFields, Fields, conn, ack, nack, udata, frag}
 use Rattle.scenario.specs.Wrong.{number_text}
 use Rattle.scenario.specs.Form.{head_text, form_text}
-use Rattle.scenario.specs.Words.{Taken, next, first_word, behind_word, some_word, number_of, or_wrong}
+use Rattle.scenario.specs.Words.{Taken, next, some_word, number_of, or_wrong}
 use Rattle.scenario.specs.Lines.{head_after, form_after, write, ended, said_by}
 use Rattle.scenario.proofs.Cutting.{Unspaced, first_before, behind_before}
 use Rattle.frame.specs.Layout.{payload}
@@ -21,11 +21,7 @@ own : IsNumeralModel (λ ds. all_ascii_digits ds ≡ true) (digits_value 10)
 own = numerals_by_value (λ ds. all_ascii_digits ds ≡ true) tells_all_ascii_digits
 
 word_before : (w t : List ℕ) → Unspaced w → 0 < length w → some_word (w ++ (32 ∷ t)) ≡ Ok (w, Some t)
-word_before w t u some' =
-    let first : first_word (w ++ (32 ∷ t)) ≡ w = first_before w t u in
-    let behind : behind_word (w ++ (32 ∷ t)) ≡ Some t = behind_before w t u in
-    let full : eqb (length w) 0 ≡ false = ne_eqb (length w) 0 (λ e. omega arith) in
-    rw (first, behind, full)
+word_before w t u some' = rw (first_before w t u, behind_before w t u, ne_eqb (length w) 0 (λ e. omega arith))
 
 -- A number of 32 bits, as it is written.
 module _ (n : ℕ) (h : n ≤ 4294967295) where
@@ -34,11 +30,7 @@ module _ (n : ℕ) (h : n ≤ 4294967295) where
 
   written : number_of (decimal n) ≡ Some n
   written =
-      let digits : all_ascii_digits (decimal n) ≡ true = digits_decimal own n fits in
-      let some' : ltb 0 (length (decimal n)) ≡ true = lt-ltb 0 (length (decimal n)) (decimal_nonempty n fits) in
-      let same : digits_value 10 (decimal n) ≡ n = digits_value-decimal own n fits in
-      let least : min n 4294967295 ≡ n = omega arith in
-      rw (digits, some', same) (ap (λ (x : ℕ). Some x) least)
+      rw (digits_decimal own n fits, lt-ltb 0 (length (decimal n)) (decimal_nonempty n fits), digits_value-decimal own n fits) (ap (λ (x : ℕ). Some x) (omega arith))
 
   unspaced : Unspaced (decimal n)
   unspaced i l e = let d = digit_at (decimal n) i (decimal_is_IsNumeral n fits).0.1 l in omega arith
@@ -48,14 +40,10 @@ module _ (n : ℕ) (h : n ≤ 4294967295) where
 
   -- Before a space and at the end of the line.
   pub number_before : (t : List ℕ) → next (some_word (decimal n ++ (32 ∷ t))) (λ word end. or_wrong (number_of word) (number_text word) end) ≡ Ok (n, Some t)
-  number_before t =
-      ap (λ (w : Taken (List ℕ)). next w (λ word end. or_wrong (number_of word) (number_text word) end)) (word_before (decimal n) t unspaced some)
-      ∙ ap (λ (o : Option ℕ). or_wrong o (number_text (decimal n)) (Some t)) written
+  number_before t = rw (word_before (decimal n) t unspaced some, written)
 
   pub number_alone : next (some_word (decimal n)) (λ word end. or_wrong (number_of word) (number_text word) end) ≡ Ok (n, None)
-  number_alone =
-      ap (λ (w : Taken (List ℕ)). next w (λ word end. or_wrong (number_of word) (number_text word) end)) (word_alone (decimal n) unspaced some)
-      ∙ ap (λ (o : Option ℕ). or_wrong o (number_text (decimal n)) None) written
+  number_alone = rw (word_alone (decimal n) unspaced some, written)
 
 conn_typed : (to type winsize published : ℕ) → to ≤ 4294967295 → type ≤ 4294967295 → winsize ≤ 4294967295 → published ≤ 4294967295 → form_after (Some (form_text (conn to type winsize published))) ≡ Ok (conn to type winsize published, None)
 conn_typed to type winsize published a b c d =

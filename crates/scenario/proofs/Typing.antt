@@ -1,9 +1,9 @@
 -- What is printed can be typed again: bytes behind `read` say these bytes.
-use Rattle.std.proofs.Common.{◌≡◌, ℕ, zero, suc, ◌/◌, ◌%◌, ◌<◌, false, eqb, List, [], ◌∷◌, ◌++◌, length, get_or, Some, None, Ok, codes, Option, ap, ◌∙◌, arith, ne_eqb}
+use Rattle.std.proofs.Common.{◌≡◌, ℕ, zero, suc, ◌/◌, ◌%◌, ◌<◌, List, [], ◌∷◌, ◌++◌, length, get_or, Some, None, Ok, codes, Option, ap, ◌∙◌, arith, ne_eqb}
 use Rattle.std.specs.List.{flat_map}
 use Rattle.std.proofs.lemmas.Bool.Decides.{nat_tests}
 use Rattle.scenario.specs.Hex.{digit_of, pair_of, hexed, unhexed}
-use Rattle.scenario.specs.Words.{Taken, next, first_word, behind_word, some_word, or_wrong, bytes_after}
+use Rattle.scenario.specs.Words.{Taken, next, some_word, or_wrong, bytes_after}
 use Rattle.scenario.specs.Wrong.{bytes_text}
 use Rattle.scenario.specs.Lines.{read, ended, said_by}
 use Rattle.scenario.proofs.Cutting.{Unspaced, first_alone, behind_alone}
@@ -32,11 +32,7 @@ hexed_some (b ∷ bs) = omega arith
 
 -- A text without a space is one word.
 pub word_alone : (w : List ℕ) → Unspaced w → 0 < length w → some_word w ≡ Ok (w, None)
-word_alone w u some' =
-    let first : first_word w ≡ w = first_alone w u in
-    let behind : behind_word w ≡ None = behind_alone w u in
-    let full : eqb (length w) 0 ≡ false = ne_eqb (length w) 0 (λ e. omega arith) in
-    rw (first, behind, full)
+word_alone w u some' = rw (first_alone w u, behind_alone w u, ne_eqb (length w) 0 (λ e. omega arith))
 
 pub bytes_alone : (bs : List ℕ) → ((i : ℕ) → get_or bs i 0 < 256) → bytes_after (Some (hexed bs)) ≡ Ok (bs, None)
 bytes_alone bs small =

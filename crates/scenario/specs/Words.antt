@@ -1,6 +1,7 @@
 -- The words of a line, which stand apart by one space, taken one after the other.
 use Rattle.std.specs.Prelude.{◌≡◌, ℕ, min, cond, ◌&&◌, List, [], ◌∷◌, length, Some, None, Ok, Err, codes, Option, Result, ◌==◌, nat_lt}
-use Rattle.std.specs.Option.{option_map}
+use Rattle.std.specs.Borrow.{Bor}
+use Rattle.std.specs.Option.{option_map, option_and_then}
 use Rattle.std.specs.Str.Parse.{digits_value}
 use Rattle.std.specs.Str.{all_ascii_digits, bytes_eq}
 use Rattle.scenario.specs.declared.words.Words.{Words}
@@ -26,6 +27,11 @@ first_word (c ∷ cs) = cond (c == 32) [] (c ∷ first_word cs)
 abbrev pub behind_word : List ℕ → Rest
 behind_word [] = None
 behind_word (c ∷ cs) = cond (c == 32) (Some cs) (behind_word cs)
+
+-- What a call of `next` gives: the word up to the next space, and what is left behind it.
+pub record Cuts (old : Words) (word : Option (Bor (List ℕ))) (new : Words) : Type 0 where
+  pub first : option_map (λ t. t.now) word ≡ option_map first_word (rest_of old)
+  pub left : rest_of new ≡ option_and_then behind_word (rest_of old)
 
 -- What was taken from a line and what is left of it, or what is wrong, in words.
 abbrev pub Taken : Type 0 → Type 0

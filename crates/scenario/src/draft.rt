@@ -1,5 +1,5 @@
 //! A form as it was typed: numbers that may lie outside their fields.
-ghost use Rattle.std.specs.Prelude.{◌≡◌, ◌<◌, ◌≤◌, false, ◌⊎◌, MatchOption};
+ghost use Rattle.std.specs.Prelude.{◌≡◌, ◌≤◌, false, ◌⊎◌, MatchOption};
 ghost use Rattle.frame.specs.Fields.{head_fields, fields, bit, conn as conn_fields};
 ghost use Rattle.frame.specs.Ranges.{conn_fits, head_fits, in_range};
 ghost use Rattle.scenario.specs.Draft.{head_of, fields_of};
@@ -7,31 +7,39 @@ ghost use Rattle.scenario.specs.Draft.{head_of, fields_of};
 use frame::{ConnId, ConnType, Fragment, Frame, Head, SeqNo, WindowExponent};
 
 /// The fields that four of the forms begin with.
-#[derive(Clone, Copy)]
+#[derive(Clone, Copy, Debug)]
 pub struct HeadDraft {
+    /// The receiver's connection number.
     pub to: u32,
+    /// 1 where an answer is requested, 0 where none is.
     pub request: u32,
+    /// The next sequence number that the sender waits for.
     pub ackno: u32,
+    /// The number of the piece carried, or of the next new one.
     pub seqno: u32,
 }
 
 /// The five forms.
-#[derive(Drop)]
+#[derive(Debug, Drop)]
 pub enum Draft {
+    /// Sets a connection up or ends it.
     Conn {
         to: u32,
         kind: u32,
         window: u32,
         published: u32,
     },
+    /// Tells what has arrived.
     Ack {
         head: HeadDraft,
     },
+    /// A gap report.
     Nack {
         head: HeadDraft,
         count: u32,
         from: u32,
     },
+    /// A whole message, or its first piece.
     Udata {
         head: HeadDraft,
         more: u32,
@@ -40,6 +48,7 @@ pub enum Draft {
         src: u32,
         payload: Vec<u8>,
     },
+    /// A later piece of a message.
     Frag {
         head: HeadDraft,
         more: u32,
@@ -48,18 +57,7 @@ pub enum Draft {
     },
 }
 
-fn byte(number: u32) -> Option<u8>
-    ensures { MatchOption result (256 ≤ number) (λ n. n ≡ number) }
-{
-    u8::try_from(number).ok()
-}
-
-fn short(number: u32) -> Option<u16>
-    ensures { MatchOption result (65536 ≤ number) (λ n. n ≡ number) }
-{
-    u16::try_from(number).ok()
-}
-
+// By match: no std conversion makes a bool of a number, and the arms show both bits.
 fn flag(number: u32) -> Option<bool>
     ensures { MatchOption result (2 ≤ number) (λ b. bit b ≡ number) }
 {
@@ -75,10 +73,10 @@ impl HeadDraft {
         ensures { MatchOption result (head_fits (head_of self) ≡ false) (λ h. head_fields h ≡ head_of self) }
     {
         Some(Head {
-            to: ConnId(byte(self.to)?),
+            to: ConnId(u8::try_from(self.to).ok()?),
             request: flag(self.request)?,
-            ackno: SeqNo(short(self.ackno)?),
-            seqno: SeqNo(short(self.seqno)?),
+            ackno: SeqNo(u16::try_from(self.ackno).ok()?),
+            seqno: SeqNo(u16::try_from(self.seqno).ok()?),
         })
     }
 }
@@ -88,7 +86,7 @@ fn fragment(more: u32, number: u32) -> Option<Fragment>
 {
     Some(Fragment {
         more: flag(more)?,
-        number: short(number)?,
+        number: u16::try_from(number).ok()?,
     })
 }
 
@@ -96,10 +94,10 @@ fn conn(to: u32, kind: u32, window: u32, published: u32) -> Option<Frame<'static
     ensures { MatchOption result (conn_fits to kind window published ≡ false) (λ f. fields f ≡ conn_fields to kind window published) }
 {
     Some(Frame::Conn {
-        to: ConnId(byte(to)?),
-        kind: ConnType::from_number(byte(kind)?)?,
-        window: WindowExponent(byte(window)?),
-        published: ConnId(byte(published)?),
+        to: ConnId(u8::try_from(to).ok()?),
+        kind: ConnType::try_from(u8::try_from(kind).ok()?).ok()?,
+        window: WindowExponent(u8::try_from(window).ok()?),
+        published: ConnId(u8::try_from(published).ok()?),
     })
 }
 
@@ -119,8 +117,8 @@ impl Draft {
             Draft::Ack { head } => Some(Frame::Ack { head: head.head()? }),
             Draft::Nack { head, count, from } => Some(Frame::Nack {
                 head: head.head()?,
-                count: byte(*count)?,
-                from: SeqNo(short(*from)?),
+                count: u8::try_from(*count).ok()?,
+                from: SeqNo(u16::try_from(*from).ok()?),
             }),
             Draft::Udata {
                 head,
@@ -132,8 +130,8 @@ impl Draft {
             } => Some(Frame::Udata {
                 head: head.head()?,
                 fragment: fragment(*more, *number)?,
-                dst: short(*dst)?,
-                src: short(*src)?,
+                dst: u16::try_from(*dst).ok()?,
+                src: u16::try_from(*src).ok()?,
                 payload: payload.as_slice(),
             }),
             Draft::Frag {

@@ -1,16 +1,16 @@
 //! The text of a frame.
 ghost use Rattle.std.specs.Prelude.{◌≡◌, IfOk, Some, string_bytes};
-ghost use Rattle.frame.specs.Fields.{head_fields, fields, bit, conn, udata, frag};
-ghost use Rattle.frame.specs.Numbers.{type_number};
+ghost use Rattle.std.specs.Fmt.{WritesOnOk};
+ghost use Rattle.frame.specs.Fields.{head_fields, fields, bit, udata};
 ghost use Rattle.scenario.specs.Form.{head_text, form_text};
 
-use crate::hex::to_hex;
-use frame::{ConnId, ConnType, Fragment, Frame, Head, WindowExponent};
+use crate::hex::Hex;
+use frame::{ConnId, Fragment, Frame, Head, SeqNo, WindowExponent};
 use std::alloc::{AllocError, Global};
 use std::fmt;
 
 /// The fields that four of the forms begin with.
-#[derive(Drop)]
+#[derive(Clone, Copy)]
 struct HeadText(Head);
 
 impl fmt::Display for HeadText {
@@ -25,85 +25,78 @@ impl fmt::Display for HeadText {
     }
 }
 
-fn conn_text(
-    heap: Global,
-    to: ConnId,
-    kind: ConnType,
-    window: WindowExponent,
-    published: ConnId,
-) -> Result<String, AllocError>
-    ensures { IfOk result (λ s. string_bytes s ≡ form_text (conn to.0 (type_number kind) window.0 published.0)) }
-{
-    let to = to.0;
-    let kind = kind.number();
-    let window = window.0;
-    let published = published.0;
-    format!(in heap; "conn to {to} type {kind} winsize {window} published {published}")
-}
-
-fn udata_text(
-    heap: Global,
+// The longest of the forms.
+fn write_udata<W: fmt::Write>(
+    f: &mut fmt::Formatter<W>,
     head: Head,
     fragment: Fragment,
     dst: u16,
     src: u16,
     payload: &[u8],
-) -> Result<String, AllocError>
-    ensures { IfOk result (λ s. string_bytes s ≡ form_text (udata (head_fields head) (bit fragment.more) fragment.number dst src payload.now)) }
+) -> fmt::Result
+    ensures { WritesOnOk W.write_str_gives f.old result (form_text (udata (head_fields head) (bit fragment.more) fragment.number dst src payload.now)) f.new }
 {
     let head = HeadText(head);
     let more = u8::from(fragment.more);
     let number = fragment.number;
-    let payload = to_hex(heap, payload)?;
-    format!(in heap; "udata {head} more {more} frag {number} dst {dst} src {src} payload {payload}")
+    let payload = Hex(payload);
+    write!(
+        f,
+        "udata {head} more {more} frag {number} dst {dst} src {src} payload {payload}"
+    )
 }
 
-fn frag_text(
-    heap: Global,
-    head: Head,
-    fragment: Fragment,
-    payload: &[u8],
-) -> Result<String, AllocError>
-    ensures { IfOk result (λ s. string_bytes s ≡ form_text (frag (head_fields head) (bit fragment.more) fragment.number payload.now)) }
-{
-    let head = HeadText(head);
-    let more = u8::from(fragment.more);
-    let number = fragment.number;
-    let payload = to_hex(heap, payload)?;
-    format!(in heap; "frag {head} more {more} frag {number} payload {payload}")
+/// A frame, printed as the words of its form, each before its value.
+#[derive(Clone, Copy)]
+pub struct Form<'a>(pub Frame<'a>);
+
+impl fmt::Display for Form<'_> {
+    ghost output = { λ x. Some (form_text (fields x.0)) };
+
+    fn fmt<W: fmt::Write>(&self, f: &mut fmt::Formatter<W>) -> fmt::Result {
+        match self.0 {
+            Frame::Conn {
+                to: ConnId(to),
+                kind,
+                window: WindowExponent(window),
+                published: ConnId(published),
+            } => {
+                let kind = u8::from(kind);
+                write!(
+                    f,
+                    "conn to {to} type {kind} winsize {window} published {published}"
+                )
+            }
+            Frame::Ack { head } => write!(f, "ack {}", HeadText(head)),
+            Frame::Nack {
+                head,
+                count,
+                from: SeqNo(from),
+            } => write!(f, "nack {} count {count} from {from}", HeadText(head)),
+            Frame::Udata {
+                head,
+                fragment,
+                dst,
+                src,
+                payload,
+            } => write_udata(f, head, fragment, dst, src, payload),
+            Frame::Frag {
+                head,
+                fragment: Fragment { more, number },
+                payload,
+            } => {
+                let head = HeadText(head);
+                let more = u8::from(more);
+                let payload = Hex(payload);
+                write!(f, "frag {head} more {more} frag {number} payload {payload}")
+            }
+        }
+    }
 }
 
 /// The words of a frame's form, each before its value.
 pub fn form_text(heap: Global, frame: Frame) -> Result<String, AllocError>
     ensures { IfOk result (λ s. string_bytes s ≡ form_text (fields frame.entry)) }
 {
-    match frame {
-        Frame::Conn {
-            to,
-            kind,
-            window,
-            published,
-        } => conn_text(heap, to, kind, window, published),
-        Frame::Ack { head } => {
-            let head = HeadText(head);
-            format!(in heap; "ack {head}")
-        }
-        Frame::Nack { head, count, from } => {
-            let head = HeadText(head);
-            let from = from.0;
-            format!(in heap; "nack {head} count {count} from {from}")
-        }
-        Frame::Udata {
-            head,
-            fragment,
-            dst,
-            src,
-            payload,
-        } => udata_text(heap, head, fragment, dst, src, payload),
-        Frame::Frag {
-            head,
-            fragment,
-            payload,
-        } => frag_text(heap, head, fragment, payload),
-    }
+    format!(in heap; "{}", Form(frame))
 }

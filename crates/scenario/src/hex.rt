@@ -1,42 +1,28 @@
 //! Bytes as text: two upper-case digits for each byte, `-` for none.
-ghost use Rattle.std.specs.Prelude.{◌≡◌, ◌<◌, ◌++◌, IfOk, Some, Ok, vec_items, string_bytes, codes, OnOk};
+ghost use Rattle.std.specs.Prelude.{◌≡◌, ◌++◌, IfOk, Some, Ok, vec_items, string_bytes, codes};
 ghost use Rattle.std.specs.Option.{option_map};
 ghost use Rattle.scenario.specs.Lines.{read, said_by};
-ghost use Rattle.scenario.specs.Hex.{digit_of, pair_of, hexed, nibble_of, byte_of, paired, unhexed};
+ghost use Rattle.scenario.specs.Hex.{hexed, nibble_of, byte_of, paired, unhexed};
 
 use std::alloc::{AllocError, Global};
+use std::fmt;
 
-fn digit(value: u8) -> char
-    requires { value < 16 }
-    ensures { (result ≡ digit_of value) × (result < 128) }
-{
-    if value < 10 {
-        char::from(b'0' + value)
-    } else {
-        char::from(b'A' + (value - 10))
-    }
-}
+/// Bytes, printed as two upper-case digits each, or as `-` for none.
+#[derive(Clone, Copy)]
+pub struct Hex<'a>(pub &'a [u8]);
 
-fn push_pair(text: &mut String, byte: u8) -> Result<(), AllocError>
-    ensures { OnOk result (string_bytes text.new ≡ string_bytes text.old ++ pair_of byte) }
-{
-    text.push(digit(byte / 16))?;
-    text.push(digit(byte % 16))?;
-    Ok(())
-}
+impl fmt::Display for Hex<'_> {
+    ghost output = { λ x. Some (hexed x.0.now) };
 
-// Pair after pair.
-fn text_of(heap: Global, bytes: &[u8]) -> Result<String, AllocError>
-    ensures { IfOk result (λ s. string_bytes s ≡ hexed bytes.now) }
-{
-    if bytes.is_empty() {
-        return String::from_str(heap, "-");
+    fn fmt<W: fmt::Write>(&self, f: &mut fmt::Formatter<W>) -> fmt::Result {
+        if self.0.is_empty() {
+            return f.write_str("-");
+        }
+        for &byte in self.0 {
+            write!(f, "{byte:02X}")?;
+        }
+        Ok(())
     }
-    let mut text = String::new(heap);
-    for byte in bytes {
-        push_pair(&mut text, *byte)?;
-    }
-    Ok(text)
 }
 
 /// The text of bytes. Read back, it gives the same bytes; so does a line that has it behind `read`.
@@ -45,7 +31,7 @@ pub fn to_hex(heap: Global, bytes: &[u8]) -> Result<String, AllocError>
     ensures reads_back { IfOk result (λ s. unhexed (string_bytes s) ≡ Some bytes.now) }
     ensures typed { IfOk result (λ s. said_by (codes "read " ++ string_bytes s) ≡ Ok (read bytes.now)) }
 {
-    text_of(heap, bytes)
+    format!(in heap; "{}", Hex(bytes))
 }
 
 // The value of a digit.
@@ -62,10 +48,7 @@ fn nibble(digit: u8) -> Option<u8>
 fn byte(high: u8, low: u8) -> Option<u8>
     ensures { result ≡ byte_of (nibble_of high) (nibble_of low) }
 {
-    match (nibble(high), nibble(low)) {
-        (Some(high), Some(low)) => Some(high * 16 + low),
-        _ => None,
-    }
+    Some(nibble(high)? * 16 + nibble(low)?)
 }
 
 // The bytes of a row of pairs.
@@ -88,12 +71,9 @@ fn bytes_of(heap: Global, digits: &[u8]) -> Result<Option<Vec<u8>>, AllocError>
 pub fn from_hex(heap: Global, text: &str) -> Result<Option<Vec<u8>>, AllocError>
     ensures { IfOk result (λ o. option_map vec_items o ≡ unhexed text.now) }
 {
-    let digits = text.as_bytes();
-    if digits.len() > 1 {
-        return bytes_of(heap, digits);
+    match text.as_bytes() {
+        [] => Ok(None),
+        [b'-'] => Ok(Some(Vec::new(heap))),
+        digits => bytes_of(heap, digits),
     }
-    if digits.len() == 1 && digits[0] == b'-' {
-        return Ok(Some(Vec::new(heap)));
-    }
-    Ok(None)
 }

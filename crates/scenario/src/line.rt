@@ -2,7 +2,7 @@
 ghost use Rattle.std.specs.Prelude.{◌≡◌};
 ghost use Rattle.scenario.specs.Draft.{head_of, fields_of};
 ghost use Rattle.scenario.specs.Words.{rest_of, told, Tells};
-ghost use Rattle.scenario.specs.Lines.{head_after, conn_after, ack_after, nack_after, payload_after, udata_after, frag_after, form_after, said, call_after, is_blank, is_skipped, said_by};
+ghost use Rattle.scenario.specs.Lines.{head_after, conn_after, nack_after, payload_after, udata_after, frag_after, form_after, said, call_after, is_blank, is_skipped, said_by};
 
 use crate::draft::{Draft, HeadDraft};
 use crate::words::Words;
@@ -10,7 +10,7 @@ use crate::wrong::{Stop, Wrong};
 use std::alloc::Global;
 
 /// What one line asks for.
-#[derive(Drop)]
+#[derive(Debug, Drop)]
 pub enum Line {
     /// A blank line or a comment.
     Nothing,
@@ -54,14 +54,14 @@ fn nack<'a>(words: &mut Words<'a>) -> Result<Draft, Wrong<'a>>
     })
 }
 
-fn payload<'a>(heap: Global, words: &mut Words<'a>) -> Result<Vec<u8>, Stop<'a>>
+fn payload<'a>(words: &mut Words<'a>) -> Result<Vec<u8>, Stop<'a>>
     ensures { Tells (λ p. (p.items, rest_of words.new)) result (payload_after (rest_of words.old)) }
 {
     words.name("payload")?;
-    words.bytes(heap)
+    words.bytes()
 }
 
-fn udata<'a>(heap: Global, words: &mut Words<'a>) -> Result<Draft, Stop<'a>>
+fn udata<'a>(words: &mut Words<'a>) -> Result<Draft, Stop<'a>>
     ensures { Tells (λ d. (fields_of d, rest_of words.new)) result (udata_after (rest_of words.old)) }
 {
     Ok(Draft::Udata {
@@ -70,54 +70,49 @@ fn udata<'a>(heap: Global, words: &mut Words<'a>) -> Result<Draft, Stop<'a>>
         number: words.number("frag")?,
         dst: words.number("dst")?,
         src: words.number("src")?,
-        payload: payload(heap, words)?,
+        payload: payload(words)?,
     })
 }
 
-fn frag<'a>(heap: Global, words: &mut Words<'a>) -> Result<Draft, Stop<'a>>
+fn frag<'a>(words: &mut Words<'a>) -> Result<Draft, Stop<'a>>
     ensures { Tells (λ d. (fields_of d, rest_of words.new)) result (frag_after (rest_of words.old)) }
 {
     Ok(Draft::Frag {
         head: head(words)?,
         more: words.number("more")?,
         number: words.number("frag")?,
-        payload: payload(heap, words)?,
+        payload: payload(words)?,
     })
 }
 
-fn form<'a>(heap: Global, words: &mut Words<'a>) -> Result<Draft, Stop<'a>>
+fn form<'a>(words: &mut Words<'a>) -> Result<Draft, Stop<'a>>
     ensures { Tells (λ d. (fields_of d, rest_of words.new)) result (form_after (rest_of words.old)) }
 {
     match words.word("the form")? {
         "conn" => Ok(conn(words)?),
         "ack" => Ok(Draft::Ack { head: head(words)? }),
         "nack" => Ok(nack(words)?),
-        "udata" => udata(heap, words),
-        "frag" => frag(heap, words),
-        other => Err(Stop::Wrong(Wrong::Form(other))),
+        "udata" => udata(words),
+        "frag" => frag(words),
+        other => Err(Wrong::Form(other).into()),
     }
 }
 
-fn call<'a>(heap: Global, words: &mut Words<'a>) -> Result<Line, Stop<'a>>
+fn call<'a>(words: &mut Words<'a>) -> Result<Line, Stop<'a>>
     ensures { Tells (λ l. (said l, rest_of words.new)) result (call_after (rest_of words.old)) }
 {
     match words.word("a command")? {
-        "read" => Ok(Line::Read(words.bytes(heap)?)),
-        "cread" => Ok(Line::Cread(words.bytes(heap)?)),
-        "write" => Ok(Line::Write(form(heap, words)?)),
-        other => Err(Stop::Wrong(Wrong::Command(other))),
+        "read" => Ok(Line::Read(words.bytes()?)),
+        "cread" => Ok(Line::Cread(words.bytes()?)),
+        "write" => Ok(Line::Write(form(words)?)),
+        other => Err(Wrong::Command(other).into()),
     }
 }
 
 fn is_blank(line: &str) -> bool
     ensures { result ≡ is_blank line.now }
 {
-    for byte in line.as_bytes() {
-        if *byte != b' ' {
-            return false;
-        }
-    }
-    true
+    line.bytes().all(|byte| byte == b' ')
 }
 
 // A blank line or a comment.
@@ -135,8 +130,8 @@ impl Line {
         if is_skipped(line) {
             return Ok(Line::Nothing);
         }
-        let mut words = Words::new(line);
-        let call = call(heap, &mut words)?;
+        let mut words = Words::new(heap, line);
+        let call = call(&mut words)?;
         words.end()?;
         Ok(call)
     }

@@ -2,15 +2,16 @@
 ghost use Rattle.std.specs.Prelude.{◌≡◌, ◌&&◌, length, Some, None, nat_lt};
 ghost use Rattle.std.specs.Option.{option_map};
 ghost use Rattle.std.specs.Str.{all_ascii_digits};
-ghost use Rattle.scenario.specs.Words.{rest_of, first_word, behind_word, told, Tells, word_after, name_after, number_of, number_after, bytes_after, end_after};
+ghost use Rattle.scenario.specs.Words.{rest_of, first_word, behind_word, Cuts, told, Tells, word_after, name_after, number_of, number_after, bytes_after, end_after};
 
 use crate::hex::from_hex;
 use crate::wrong::{Stop, Wrong};
 use std::alloc::Global;
 
-/// What is left of a line.
+/// What is left of a line, word by word, and where the bytes that it says are kept.
 #[derive(Clone, Copy)]
 pub(crate) struct Words<'a> {
+    heap: Global,
     rest: Option<&'a str>,
 }
 
@@ -18,12 +19,7 @@ pub(crate) struct Words<'a> {
 fn is_number(word: &str) -> bool
     ensures { result ≡ (all_ascii_digits word.now && nat_lt 0 (length word.now)) }
 {
-    for byte in word.as_bytes() {
-        if !byte.is_ascii_digit() {
-            return false;
-        }
-    }
-    !word.is_empty()
+    !word.is_empty() && word.bytes().all(|byte| byte.is_ascii_digit())
 }
 
 // A number past 32 bits counts as the largest of these, which is out of every field's range too.
@@ -33,10 +29,7 @@ fn number_of(word: &str) -> Option<u32>
     if !is_number(word) {
         return None;
     }
-    match word.parse::<u32>() {
-        Ok(number) => Some(number),
-        Err(_) => Some(u32::MAX),
-    }
+    Some(word.parse().unwrap_or(u32::MAX))
 }
 
 // The first word of a text, and what is left behind its space.
@@ -50,26 +43,37 @@ fn cut(text: &str) -> (&str, Option<&str>)
     }
 }
 
+impl<'a> Iterator for Words<'a> {
+    type Item = &'a str;
+
+    ghost next_gives = { Cuts };
+
+    fn next(&mut self) -> Option<&'a str> {
+        let (word, rest) = cut(self.rest?);
+        self.rest = rest;
+        Some(word)
+    }
+}
+
 impl<'a> Words<'a> {
-    pub(crate) fn new(line: &'a str) -> Words<'a>
+    pub(crate) fn new(heap: Global, line: &'a str) -> Words<'a>
         ensures { rest_of result ≡ Some line.now }
     {
-        Words { rest: Some(line) }
+        Words {
+            heap,
+            rest: Some(line),
+        }
     }
 
     /// The next word; `wanted` says what it should be.
     pub(crate) fn word(&mut self, wanted: &'a str) -> Result<&'a str, Wrong<'a>>
         ensures { told (λ w. w.now) result (rest_of self.new) ≡ word_after wanted.now (rest_of self.old) }
     {
-        let Some(rest) = self.rest else {
-            return Err(Wrong::Missing(wanted));
-        };
-        let (word, rest) = cut(rest);
-        self.rest = rest;
-        if word.is_empty() {
-            return Err(Wrong::Gap);
+        match self.next() {
+            None => Err(Wrong::Missing(wanted)),
+            Some("") => Err(Wrong::Gap),
+            Some(word) => Ok(word),
         }
-        Ok(word)
     }
 
     /// The word that names what follows.
@@ -93,33 +97,25 @@ impl<'a> Words<'a> {
     {
         self.name(name)?;
         let word = self.word("a number")?;
-        match number_of(word) {
-            Some(number) => Ok(number),
-            None => Err(Wrong::Number(word)),
-        }
+        number_of(word).ok_or(Wrong::Number(word))
     }
 
     /// Bytes.
-    pub(crate) fn bytes(&mut self, heap: Global) -> Result<Vec<u8>, Stop<'a>>
+    pub(crate) fn bytes(&mut self) -> Result<Vec<u8>, Stop<'a>>
         ensures { Tells (λ v. (v.items, rest_of self.new)) result (bytes_after (rest_of self.old)) }
     {
         let word = self.word("bytes")?;
-        match from_hex(heap, word)? {
-            Some(bytes) => Ok(bytes),
-            None => Err(Stop::Wrong(Wrong::Bytes(word))),
-        }
+        from_hex(self.heap, word)?.ok_or(Wrong::Bytes(word).into())
     }
 
     /// The end of the line.
     pub(crate) fn end(self) -> Result<(), Wrong<'a>>
         ensures { told (λ _. tt) result None ≡ end_after (rest_of self.entry) }
     {
-        let Some(rest) = self.rest else {
-            return Ok(());
-        };
-        if rest.is_empty() {
-            return Err(Wrong::Gap);
+        match self.rest {
+            None => Ok(()),
+            Some("") => Err(Wrong::Gap),
+            Some(rest) => Err(Wrong::Rest(rest)),
         }
-        Err(Wrong::Rest(rest))
     }
 }

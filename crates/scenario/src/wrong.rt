@@ -4,10 +4,11 @@ ghost use Rattle.scenario.specs.Wrong.{wrong_text};
 ghost use Rattle.scenario.specs.declared.wrong.Stop.TheVariants.{Wrong as StoppedWrong, Memory as StoppedMemory};
 
 use std::alloc::AllocError;
+use std::error::Error;
 use std::fmt;
 
 /// What should stand in a line and does not, or stands there and should not.
-#[derive(Clone, Copy)]
+#[derive(Clone, Copy, Debug, PartialEq, Eq)]
 pub enum Wrong<'a> {
     /// No line of a scenario begins so.
     Command(&'a str),
@@ -54,9 +55,14 @@ impl fmt::Display for Wrong<'_> {
     }
 }
 
+impl Error for Wrong<'_> {}
+
 /// Why a line is not understood: it is wrong, or memory ran out.
+#[derive(Clone, Copy, Debug, PartialEq, Eq)]
 pub enum Stop<'a> {
+    /// The line is wrong.
     Wrong(Wrong<'a>),
+    /// Memory ran out.
     Memory(AllocError),
 }
 

@@ -1,4 +1,4 @@
-use Rattle.std.proofs.Common.{◌≡◌, IfOk, string_bytes, Result, sym, subst, arith}
+use Rattle.std.proofs.Common.{◌≡◌, string_bytes, Result, sym, subst, arith}
 use Rattle.std.proofs.lemmas.Result.{IfOk-weaker}
 use Rattle.frame.specs.declared.fault.FrameFault.{FrameFault}
 use Rattle.frame.specs.Fields.{Fields}
@@ -8,13 +8,10 @@ use Rattle.bench.specs.Answer.{read_text, WritesBack}
 use Rattle.bench.proofs.Rewriting.{writes_back}
 use Rattle.bench.proofs.play.read_line.Goals as goal
 
-pub returns : goal.returns
-returns c =
+pub returns-clause-writes_back : goal.returns-clause-writes_back
+returns-clause-writes_back c =
     let bs = c.args.bytes.now in
-    let same = c.read.ensures.value in
-    let text = subst (λ (a : Result Fields FrameFault). IfOk c.read_text.result (λ s. string_bytes s ≡ read_text a)) same c.read_text.ensures in
-    let means = subst (λ (a : Result Fields FrameFault). Means bs a) same c.read.ensures.meaning in
-    record {
-      value = text;
-      writes_back = IfOk-weaker c.read_text.result (λ s. string_bytes s ≡ read_text (frame_of bs)) (λ s. WritesBack (frame_of bs) (string_bytes s)) (λ s h. subst (WritesBack (frame_of bs)) (sym h) (writes_back bs (frame_of bs) (λ i. omega (arith, c.type_inv.bytes i)) means)) text;
-    }
+    let means = subst (λ (a : Result Fields FrameFault). Means bs a) c.read.ensures.value c.read.ensures.meaning in
+    let back = writes_back bs (frame_of bs) (λ i. omega (arith, c.type_inv.bytes i)) means in
+    let text = c.read_text.ensures in
+    IfOk-weaker c.read_text.result (λ s. string_bytes s ≡ read_text (frame_of bs)) (λ s. WritesBack (frame_of bs) (string_bytes s)) (λ s h. subst (WritesBack (frame_of bs)) (sym h) back) (rw c.read.ensures.value at text)

@@ -1,23 +1,16 @@
-use Rattle.std.proofs.Common.{ℕ, Bool, not, ◌&&◌, ltb, length, refl, ap, ◌∙◌}
+use Rattle.std.proofs.Common.{◌&&◌, refl, ◌∙◌, rules, tests, arith}
 use Rattle.std.specs.Char.{is_ascii_digit}
+use Rattle.std.specs.List.{list_all}
 use Rattle.std.specs.Str.{all_ascii_digits}
-use Rattle.scenario.proofs.Testing.{Every, passes, fails, passed, some}
+use Rattle.std.proofs.lemmas.Iterator.Search.{all_from_yields_List}
+use Rattle.std.proofs.lemmas.Iterator.Adapters.{YieldsList-from_bytes}
+use Rattle.std.proofs.lemmas.List.Recursion.{same_from_clauses}
+use Rattle.std.proofs.lemmas.Bool.Decides.{nat_tests}
 use Rattle.scenario.proofs.words.is_number.Goals as goal
 
-law : Every is_ascii_digit all_ascii_digits
-law = record { none = refl; more = λ c cs. refl }
-
-pub returns-then-not-is_ascii_digit : goal.returns-then-not-is_ascii_digit
-returns-then-not-is_ascii_digit c =
-    let none = fails is_ascii_digit all_ascii_digits law c.as_bytes-byte-items.result.now c.args.word.now c.loop-byte.byte-index c.as_bytes-byte-items.ensures.value c.loop-byte.invariant c.loop-byte-test.true c.if-not-is_ascii_digit.ensures.value in
-    ap (λ (b : Bool). b && ltb 0 (length c.args.word.now)) none
-
-pub loop-byte-preserved : goal.loop-byte-preserved
-loop-byte-preserved c =
-    passes is_ascii_digit all_ascii_digits law c.as_bytes-byte-items.result.now c.args.word.now c.loop-byte.byte-index c.as_bytes-byte-items.ensures.value c.loop-byte.invariant c.loop-byte-test.true c.if-not-is_ascii_digit.ensures.value
-
-pub returns : goal.returns
-returns c =
-    let n : ℕ = length c.args.word.now in
-    let all = passed is_ascii_digit all_ascii_digits law c.as_bytes-byte-items.result.now c.args.word.now c.loop-byte.byte-index c.as_bytes-byte-items.ensures.value c.loop-byte.invariant c.loop-byte-test.false in
-    ap not c.is_empty.ensures ∙ some n ∙ ap (λ (b : Bool). b && ltb 0 n) all
+pub returns-then-not-is_empty : goal.returns-then-not-is_empty
+returns-then-not-is_empty c =
+    let all = all_from_yields_List is_ascii_digit _ _ c.all.result c.all.ensures.ran (YieldsList-from_bytes c.args.word.now c.bytes.ensures.rest) (λ x b q k. search (rules, tests)) in
+    let same = same_from_clauses (list_all is_ascii_digit) all_ascii_digits (λ b all. is_ascii_digit b && all) refl (λ _ _. refl) (λ _ _. refl) c.args.word.now in
+    let whole = all ∙ same in
+    grind (arith, nat_tests)

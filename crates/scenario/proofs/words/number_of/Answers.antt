@@ -1,7 +1,7 @@
-use Rattle.std.proofs.Common.{sym, ◌∙◌}
-use Rattle.scenario.proofs.Numbering.{too_large}
+use Rattle.std.proofs.Common.{arith}
+use Rattle.std.proofs.lemmas.Grind.{common_steps}
+use Rattle.scenario.proofs.Numbering.{number_read}
 use Rattle.scenario.proofs.words.number_of.Goals as goal
 
-pub returns-in-Err : goal.returns-in-Err
-returns-in-Err c =
-    too_large c.args.word.now c.parse.result c.in-Err.field-0 (sym c.is_number.ensures ∙ c.if-not-is_number.false) c.parse.ensures.value.0 c.in-Err.is
+pub returns : goal.returns
+returns c = grind (arith, common_steps, number_read)
