@@ -63,7 +63,8 @@ pub(crate) fn ethernet_header(from: Side) -> [u8; 14]
     [2, 0, 0, 0, 0, to, 2, 0, 0, 0, 0, source, 0x89, 0x11]
 }
 
-// Fills the place with one part behind the other.
+// Fills the place with one part behind the other. A function of its own, so that one clause tells the whole place, which the two
+// writes to parts of an array do not.
 pub(crate) fn lay(place: &mut [u8], head: &[u8], tail: &[u8])
     requires { length head.now + length tail.now ≡ length place.old }
     ensures { place.new ≡ head.now ++ tail.now }

@@ -1,4 +1,4 @@
-//! What a program in C is told of a frame. The crate `frame_c` exports it.
+//! What a program in C is told of a frame: one number, since C has no enum with fields. The crate `frame_c` exports it.
 ghost use Rattle.std.specs.Prelude.{◌≡◌};
 ghost use Rattle.frame.specs.Reader.{frame_of};
 ghost use Rattle.frame.specs.Kinds.{code};

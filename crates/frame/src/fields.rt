@@ -77,7 +77,8 @@ impl TryFrom<u8> for ConnType {
     }
 }
 
-/// Where a piece stands in its message.
+/// Where a piece stands in its message, as the header says it.
+// No enum of whole, first, middle and last: the writer declines numbers out of range, so such values must exist.
 #[derive(Debug, Clone, Copy, PartialEq, Eq)]
 pub struct Fragment {
     /// M: more pieces follow.

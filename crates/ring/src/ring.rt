@@ -9,6 +9,7 @@ mod elements;
 pub struct Full;
 
 /// Which of 64 places are taken: `count` of them, from `head` on, round the end.
+// The places are passed at each call: one ring is for every slice, also for one in a field beside the ring, which it could not borrow.
 #[derive(Debug, Clone, Copy)]
 pub struct Ring {
     // the place of the oldest element

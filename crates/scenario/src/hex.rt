@@ -34,7 +34,7 @@ pub fn to_hex(heap: Global, bytes: &[u8]) -> Result<String, AllocError>
     format!(in heap; "{}", Hex(bytes))
 }
 
-// The value of a digit.
+// The value of a digit. By match: `to_digit` would take lower-case letters too.
 fn nibble(digit: u8) -> Option<u8>
     ensures { result ≡ nibble_of digit }
 {

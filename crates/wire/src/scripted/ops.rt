@@ -37,8 +37,8 @@ impl ScriptedWire {
         }
     }
 
-    // What the script says of a take at a side: the frame, from the oldest of all, and whether it stays. No byte is used where
-    // nothing waits for the side.
+    // What the script says of a take at a side: the frame, from the oldest of all, and whether it stays. These are two answers, and
+    // neither says whether the other counts. No byte is used where nothing waits for the side.
     fn choose(&mut self, side: Side) -> Option<(usize, bool)>
         ensures answer { result ≡ choice side (row_of self.old) }
         ensures frames { (row_of self.new).frames ≡ (row_of self.old).frames }

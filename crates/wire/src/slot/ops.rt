@@ -6,7 +6,8 @@ use super::Slot;
 use crate::carried::Carried;
 use medium::LONGEST_FRAME;
 
-// The bytes of `src` at the front of the place.
+// The bytes of `src` at the front of the place. A function of its own: a part of a field that stands beside a ghost field is not
+// lent where it is.
 fn lay(place: &mut [u8], src: &[u8])
     requires { length src.now ≤ length place.old }
     ensures { place.new ≡ src.now ++ drop (length src.now) place.old }
