@@ -1,4 +1,4 @@
-//! The headers that the reader holds on its way to a frame.
+//! What Next names, and ACK as the reader holds it on its way to a frame.
 ghost use Rattle.std.specs.Prelude.{◌≡◌};
 ghost use Rattle.frame.specs.Headers.{main_next, ack_next};
 

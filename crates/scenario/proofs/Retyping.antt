@@ -1,5 +1,5 @@
 -- The text of a form, typed behind `write`, says the fields it was made of.
-use Rattle.std.proofs.Common.{◌≡◌, ℕ, ◌^◌, ◌<◌, ◌≤◌, true, List, [], ◌∷◌, ◌++◌, length, get_or, Some, None, Ok, codes, decimal, ap, ◌∙◌, arith, lt-ltb, ne_eqb}
+use Rattle.std.proofs.Common.{◌≡◌, ℕ, ◌^◌, ◌<◌, ◌≤◌, true, List, ◌∷◌, ◌++◌, length, get_or, Some, None, Ok, codes, decimal, ap, ◌∙◌, arith, lt-ltb, ne_eqb}
 use Rattle.std.specs.Str.Parse.{digits_value}
 use Rattle.std.specs.Str.{all_ascii_digits}
 use Rattle.std.proofs.lemmas.Str.Parse.{IsNumeralModel, numerals_by_value, tells_all_ascii_digits, digit_at}
@@ -11,8 +11,8 @@ use Rattle.scenario.specs.Words.{Taken, next, some_word, number_of, or_wrong}
 use Rattle.scenario.specs.Lines.{head_after, form_after, write, ended, said_by}
 use Rattle.scenario.proofs.Cutting.{Unspaced, first_before, behind_before}
 use Rattle.frame.specs.Layout.{payload}
-use Rattle.frame.specs.Ranges.{within, head_fits, count_fits, in_range}
-use Rattle.frame.proofs.Fitting.{each_true, is_within, HeadFacts, head_fits_is, conn_fits_is, udata_fits_is, frag_fits_is, udata_below, frag_below}
+use Rattle.frame.specs.Ranges.{in_range}
+use Rattle.frame.proofs.Fitting.{HeadFacts, head_fits_is, conn_fits_is, udata_fits_is, frag_fits_is, udata_below, frag_below}
 use Rattle.std.proofs.lemmas.List.{append_assoc}
 use Rattle.scenario.specs.Hex.{hexed}
 use Rattle.scenario.proofs.Typing.{word_alone, bytes_alone}
@@ -100,8 +100,7 @@ form_typed (conn to type winsize published) h small =
     conn_typed to type winsize published (omega (arith, t.low_to)) (omega (arith, t.low_type)) (omega (arith, t.low_winsize)) (omega (arith, t.low_published))
 form_typed (ack k) h small = ack_typed k (head_fits_is k h)
 form_typed (nack k count from) h small =
-    let t = each_true (head_fits k ∷ count_fits count ∷ within 0 4095 from ∷ []) h in
-    nack_typed k (head_fits_is k t.0) count from (omega (arith, is_within 1 31 count t.1.0)) (omega (arith, is_within 0 4095 from t.1.1.0))
+    nack_typed k (head_fits_is k (grind arith)) count from (grind arith) (grind arith)
 form_typed (udata k more number dst src p) h small =
     let t = udata_fits_is k more number dst src p h in
     let b = udata_below more number t.0.fits in

@@ -25,7 +25,7 @@ impl fmt::Display for HeadText {
     }
 }
 
-// The longest of the forms.
+// A function of its own, so that `fmt` stays short; no other has these five fields as parameters.
 fn write_udata<W: fmt::Write>(
     f: &mut fmt::Formatter<W>,
     head: Head,

@@ -52,6 +52,9 @@ in_nth [] i x e = absurd (none-some x e)
 in_nth (y ∷ xs) zero x e = Memᴰ.head (sym (same_Some y x e))
 in_nth (y ∷ xs) (suc i) x e = Memᴰ.tail (in_nth xs i x e)
 
+pub in_map : {X Y : Type 0} (f : X → Y) (xs : List X) (y : Y) → Memᴰ y (map f xs) → (x : X) × Memᴰ x xs × (y ≡ f x)
+in_map f xs y m = let r = Memᴰ.of_map f xs m in (r.0, r.1, sym r.2)
+
 -- The frame whose bytes are told.
 pub frame_from : (ws : List Waiting) (i : ℕ) (f : List ℕ) → Some f ≡ frame_at ws i → (x : Waiting) × (slice_get ws i ≡ Some x) × (x.bytes ≡ f)
 frame_from [] i f e = absurd (none-some f (sym e))

@@ -12,7 +12,7 @@ use Rattle.wire.specs.Straight.{Queues, queue, to, queues_of, put_queued, given_
 use Rattle.wire.specs.declared.store.Store.{Store}
 use Rattle.wire.specs.declared.straight.StraightWire.{StraightWire}
 use Rattle.wire.specs.Lawful.{Meant, laws}
-use Rattle.wire.specs.Members.{in_older, in_added, in_rest, in_nth, frame_from, held_young}
+use Rattle.wire.specs.Members.{in_older, in_added, in_rest, in_nth, in_map, frame_from, held_young}
 
 -- x waits in the queue for a side.
 abbrev In : Side → Queues → Waiting → Type 0
@@ -43,11 +43,11 @@ young : (w : StraightWire) (x : Waiting) → Memᴰ x (straight_waiting w) → x
 young w x i = ⊎_elim (one Left w.queues.left) (one Right w.queues.right) (out (queues_of w) x i)
   where
     one : (s : Side) (t : Store) → Memᴰ x (map (to s) (held t)) → x.age < age_limit
-    one s t j = let r = Memᴰ.of_map (to s) (held t) j in subst (λ (y : Waiting). y.age < age_limit) r.2 (held_young t r.0 r.1)
+    one s t j = let r = in_map (to s) (held t) x j in subst (λ (y : Waiting). y.age < age_limit) (sym r.2) (held_young t r.0 r.1)
 
 sided : (w : StraightWire) (side : Side) (x : Waiting) → In side (queues_of w) x → x.side ≡ side
-sided w Left x i = ap (λ (y : Waiting). y.side) (sym (Memᴰ.of_map (to Left) (held w.queues.left) i).2)
-sided w Right x i = ap (λ (y : Waiting). y.side) (sym (Memᴰ.of_map (to Right) (held w.queues.right) i).2)
+sided w Left x i = ap (λ (y : Waiting). y.side) (in_map (to Left) (held w.queues.left) x i).2
+sided w Right x i = ap (λ (y : Waiting). y.side) (in_map (to Right) (held w.queues.right) x i).2
 
 gives : (w : StraightWire) (side : Side) (f : List ℕ) → Some f ≡ given_first side (queues_of w) → (x : Waiting) × Memᴰ x (straight_waiting w) × (x.side ≡ side) × (x.bytes ≡ f)
 gives w side f e =
