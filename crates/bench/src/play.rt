@@ -14,7 +14,7 @@ use scenario::{Draft, Form, Hex, Line, Stop, Wrong};
 use std::alloc::{AllocError, Global};
 
 /// The longest frame: 20 bytes of headers and 256 of payload.
-const LONGEST: usize = 276;
+const LONGEST: usize = 20 + frame::PIECE;
 
 // The text of what the reader answered.
 fn read_text(heap: Global, read: Result<Frame, FrameFault>) -> Result<String, AllocError>
@@ -50,8 +50,7 @@ fn bytes_line(heap: Global, bytes: &[u8]) -> Result<String, AllocError>
 }
 
 // The frame's bytes, by way of a place that holds every frame.
-fn frame_line(heap: Global, frame: Frame, place: &mut [u8]) -> Result<String, AllocError>
-    requires { 276 ≤ length place.old }
+fn frame_line(heap: Global, frame: Frame, place: &mut [u8; LONGEST]) -> Result<String, AllocError>
     ensures value { IfOk result (λ s. string_bytes s ≡ write_text (fields frame.entry)) }
     ensures reads_back { IfOk result (λ s. ReadsBack (fields frame.entry) (string_bytes s)) }
 {

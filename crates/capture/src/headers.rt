@@ -3,7 +3,7 @@ ghost use Rattle.std.specs.Prelude.{◌≡◌};
 ghost use Rattle.capture.specs.Format.{file_header, frame_header};
 ghost use Rattle.capture.specs.Opened.{Opens, Continues};
 
-use crate::layout::{ethernet_header, fixed_header, lay, record_header};
+use crate::layout::{fixed_header, packet_header};
 use medium::Side;
 
 /// What a capture begins with. Read by the rule of the format, every capture gives back its frames, each with its side, in their order.
@@ -20,9 +20,5 @@ pub fn frame_header(number: u64, from: Side, length: u16) -> [u8; 30]
     ensures bytes { result ≡ frame_header number from length }
     ensures continues { Continues number from length result }
 {
-    let record = record_header(number, length);
-    let ethernet = ethernet_header(from);
-    let mut header = [0; 30];
-    lay(&mut header, &record, &ethernet);
-    header
+    packet_header(number, from, length)
 }

@@ -1,6 +1,6 @@
 //! The parts of a capture's headers, byte for byte.
 ghost use Rattle.std.specs.Prelude.{◌≡◌, ◌+◌, ◌++◌, length};
-ghost use Rattle.capture.specs.Format.{file_header, record_header, ethernet_header, address_end};
+ghost use Rattle.capture.specs.Format.{file_header, record_header, ethernet_header, address_end, frame_header};
 
 use medium::Side;
 
@@ -27,7 +27,7 @@ pub(crate) fn fixed_header() -> [u8; 24]
 }
 
 // Packets are a microsecond apart. A packet is kept whole, so both lengths are the same.
-pub(crate) fn record_header(number: u64, len: u16) -> [u8; 16]
+fn record_header(number: u64, len: u16) -> [u8; 16]
     ensures { result ≡ record_header number len }
 {
     let [s0, s1, s2, s3] = ((number / 1_000_000 % 0x1_0000_0000) as u32).to_be_bytes();
@@ -55,7 +55,7 @@ fn address_end(side: Side) -> u8
     }
 }
 
-pub(crate) fn ethernet_header(from: Side) -> [u8; 14]
+fn ethernet_header(from: Side) -> [u8; 14]
     ensures { result ≡ ethernet_header from }
 {
     let to = address_end(from.other());
@@ -63,13 +63,12 @@ pub(crate) fn ethernet_header(from: Side) -> [u8; 14]
     [2, 0, 0, 0, 0, to, 2, 0, 0, 0, 0, source, 0x89, 0x11]
 }
 
-// Fills the place with one part behind the other. A function of its own, so that one clause tells the whole place, which the two
-// writes to parts of an array do not.
-pub(crate) fn lay(place: &mut [u8], head: &[u8], tail: &[u8])
-    requires { length head.now + length tail.now ≡ length place.old }
-    ensures { place.new ≡ head.now ++ tail.now }
+// A record's header, and then the packet's.
+pub(crate) fn packet_header(number: u64, from: Side, len: u16) -> [u8; 30]
+    ensures { result ≡ frame_header number from len }
 {
-    let middle = head.len();
-    place[..middle].copy_from_slice(head);
-    place[middle..].copy_from_slice(tail);
+    let mut header = [0; 30];
+    header[..16].copy_from_slice(&record_header(number, len));
+    header[16..].copy_from_slice(&ethernet_header(from));
+    header
 }

@@ -12,9 +12,8 @@ fn take_two<T: Copy>(slots: &mut [T], first: T, second: T) -> Option<Ring>
     ensures places { slots.new ≡ (if is_places slots.old then slice_set (slice_set slots.old 0 first) 1 second else slots.old) }
 {
     let mut ring = Ring::new();
-    if ring.push(slots, first).is_err() || ring.push(slots, second).is_err() {
-        return None;
-    }
+    ring.push(slots, first).ok()?;
+    ring.push(slots, second).ok()?;
     Some(ring)
 }
 

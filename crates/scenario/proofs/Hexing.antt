@@ -11,23 +11,14 @@ nibble_digit n h = grind (arith, nat_tests)
 byte_pair : (b : ℕ) → b < 256 → byte_of (nibble_of (digit_of (b / 16))) (nibble_of (digit_of (b % 16))) ≡ Some b
 byte_pair b h = rw (nibble_digit (b / 16) (omega arith), nibble_digit (b % 16) (omega arith)) (ap (λ (n : ℕ). Some n) (omega arith))
 
--- Each is a byte.
-abbrev Bytes : List ℕ → Type 0
-Bytes [] = Unit {0}
-Bytes (b ∷ bs) = (b < 256) × Bytes bs
-
-bytes_from : (bs : List ℕ) → ((i : ℕ) → get_or bs i 0 < 256) → Bytes bs
-bytes_from [] h = tt
-bytes_from (b ∷ bs) h = (h 0, bytes_from bs (λ i. h (suc i)))
-
-paired_back : (bs : List ℕ) → Bytes bs → paired (flat_map pair_of bs) ≡ Some bs
+paired_back : (bs : List ℕ) → ((i : ℕ) → get_or bs i 0 < 256) → paired (flat_map pair_of bs) ≡ Some bs
 paired_back [] h = refl
-paired_back (b ∷ bs) h = ap (λ (o : Option ℕ). and_then o (paired (flat_map pair_of bs))) (byte_pair b h.0) ∙ ap (before (b ∷ [])) (paired_back bs h.1)
+paired_back (b ∷ bs) h = ap (λ (o : Option ℕ). and_then o (paired (flat_map pair_of bs))) (byte_pair b (h 0)) ∙ ap (before (b ∷ [])) (paired_back bs (λ i. h (suc i)))
 
 -- What was laid out as text reads back as the same bytes.
 pub unhexed_hexed : (bs : List ℕ) → ((i : ℕ) → get_or bs i 0 < 256) → unhexed (hexed bs) ≡ Some bs
 unhexed_hexed [] h = refl
-unhexed_hexed (b ∷ bs) h = paired_back (b ∷ bs) (bytes_from (b ∷ bs) h)
+unhexed_hexed (b ∷ bs) h = paired_back (b ∷ bs) h
 
 pub two_first : (bs : List ℕ) → 2 ≤ length bs → bs ≡ get_or bs 0 0 ∷ get_or bs 1 0 ∷ take (length bs - 2) (drop 2 bs)
 two_first [] h = absurd (omega arith)

@@ -1,8 +1,6 @@
 -- The text of a form, typed behind `write`, says the fields it was made of.
 use Rattle.std.proofs.Common.{◌≡◌, ℕ, ◌^◌, ◌<◌, ◌≤◌, true, List, ◌∷◌, ◌++◌, length, get_or, Some, None, Ok, codes, decimal, ap, ◌∙◌, arith, lt-ltb, ne_eqb}
-use Rattle.std.specs.Str.Parse.{digits_value}
-use Rattle.std.specs.Str.{all_ascii_digits}
-use Rattle.std.proofs.lemmas.Str.Parse.{IsNumeralModel, numerals_by_value, tells_all_ascii_digits, digit_at}
+use Rattle.std.proofs.lemmas.Str.Parse.{digit_at}
 use Rattle.std.proofs.lemmas.Fmt.{decimal_is_IsNumeral, decimal_nonempty, digits_decimal, digits_value-decimal}
 use Rattle.frame.specs.Fields.{HeadFields, Fields, conn, ack, nack, udata, frag}
 use Rattle.scenario.specs.Wrong.{number_text}
@@ -16,9 +14,7 @@ use Rattle.frame.proofs.Fitting.{HeadFacts, head_fits_is, conn_fits_is, udata_fi
 use Rattle.std.proofs.lemmas.List.{append_assoc}
 use Rattle.scenario.specs.Hex.{hexed}
 use Rattle.scenario.proofs.Typing.{word_alone, bytes_alone}
-
-own : IsNumeralModel (λ ds. all_ascii_digits ds ≡ true) (digits_value 10)
-own = numerals_by_value (λ ds. all_ascii_digits ds ≡ true) tells_all_ascii_digits
+use Rattle.scenario.proofs.Numbering.{own}
 
 word_before : (w t : List ℕ) → Unspaced w → 0 < length w → some_word (w ++ (32 ∷ t)) ≡ Ok (w, Some t)
 word_before w t u some' = rw (first_before w t u, behind_before w t u, ne_eqb (length w) 0 (λ e. omega arith))

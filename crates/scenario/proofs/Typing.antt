@@ -26,17 +26,13 @@ hexed_unspaced : (bs : List ℕ) → Unspaced (hexed bs)
 hexed_unspaced [] = unspaced_more 45 [] (λ e. omega arith) (λ i h e. omega arith)
 hexed_unspaced (b ∷ bs) = pairs_unspaced (b ∷ bs)
 
-hexed_some : (bs : List ℕ) → 0 < length (hexed bs)
-hexed_some [] = omega arith
-hexed_some (b ∷ bs) = omega arith
-
 -- A text without a space is one word.
 pub word_alone : (w : List ℕ) → Unspaced w → 0 < length w → some_word w ≡ Ok (w, None)
 word_alone w u some' = rw (first_alone w u, behind_alone w u, ne_eqb (length w) 0 (λ e. omega arith))
 
 pub bytes_alone : (bs : List ℕ) → ((i : ℕ) → get_or bs i 0 < 256) → bytes_after (Some (hexed bs)) ≡ Ok (bs, None)
 bytes_alone bs small =
-    ap (λ (t : Taken (List ℕ)). next t (λ word left. or_wrong (unhexed word) (bytes_text word) left)) (word_alone (hexed bs) (hexed_unspaced bs) (hexed_some bs))
+    ap (λ (t : Taken (List ℕ)). next t (λ word left. or_wrong (unhexed word) (bytes_text word) left)) (word_alone (hexed bs) (hexed_unspaced bs) (let u = unhexed_hexed bs small in grind (arith, u)))
     ∙ ap (λ (o : Option (List ℕ)). or_wrong o (bytes_text (hexed bs)) None) (unhexed_hexed bs small)
 
 pub read_typed : (bs : List ℕ) → ((i : ℕ) → get_or bs i 0 < 256) → said_by (codes "read " ++ hexed bs) ≡ Ok (read bs)

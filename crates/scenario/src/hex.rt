@@ -78,7 +78,7 @@ fn bytes_of(heap: Global, digits: &[u8]) -> Result<Option<Vec<u8>>, AllocError>
         bytes.push(byte)?;
         rest = tail;
     }
-    Ok(if rest.is_empty() { Some(bytes) } else { None })
+    Ok(rest.is_empty().then_some(bytes))
 }
 
 /// The bytes that a text stands for: upper-case pairs, or `-` for none.

@@ -3,7 +3,7 @@ use Rattle.std.proofs.Common.{◌≡◌, ℕ, ◌<◌, cond, eqb, List, length, 
 use Rattle.std.proofs.lemmas.List.Edits.{swapped_from_swap, length-swap}
 use Rattle.std.proofs.lemmas.List.{map-set, length-map, get_or_past, set-get_or}
 use Rattle.std.proofs.lemmas.List.Sorted.{IsPermutation-keeps, IsPermutation-map, length_permutation}
-use Rattle.std.proofs.lemmas.Bool.{cases_lt, cases_eq, cond-true, cond-false, eq-eqb, ne_eqb}
+use Rattle.std.proofs.lemmas.Bool.{cases_lt, cases_eq}
 use Rattle.std.proofs.lemmas.Bool.Decides.{nat_tests}
 use Rattle.std.specs.List.{swap}
 use Rattle.std.specs.List.Sorted.{IsPermutation}
@@ -35,13 +35,13 @@ source_within : (i j k n : ℕ) → i < n → j < n → k < n → source i j k <
 source_within i j k n a b c = grind (arith, nat_tests)
 
 source_first : (i j k : ℕ) → k ≡ i → source i j k ≡ j
-source_first i j k e = cond-true _ j _ (eq-eqb k i e)
+source_first i j k e = grind (arith, nat_tests)
 
 source_second : (i j k : ℕ) → (k ≡ i → ⊥) → k ≡ j → source i j k ≡ i
-source_second i j k ne e = cond-false _ j _ (ne_eqb k i ne) ∙ cond-true _ i k (eq-eqb k j e)
+source_second i j k ne e = grind (arith, nat_tests)
 
 source_other : (i j k : ℕ) → (k ≡ i → ⊥) → (k ≡ j → ⊥) → source i j k ≡ k
-source_other i j k ne nf = cond-false _ j _ (ne_eqb k i ne) ∙ cond-false _ i k (ne_eqb k j nf)
+source_other i j k ne nf = grind (arith, nat_tests)
 
 get_or_exchanged : (ns : List ℕ) (i j k : ℕ) → i < length ns → j < length ns → get_or (swap ns i j) k 0 ≡ get_or ns (source i j k) 0
 get_or_exchanged ns i j k a b =

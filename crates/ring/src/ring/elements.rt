@@ -19,9 +19,7 @@ impl Ring {
         if slots.len() != Ring::PLACES {
             return Err(Full);
         }
-        let Some(at) = self.claim() else {
-            return Err(Full);
-        };
+        let at = self.claim().ok_or(Full)?;
         slots[at] = x;
         Ok(())
     }

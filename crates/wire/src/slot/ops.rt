@@ -48,7 +48,7 @@ impl Slot {
         ensures place { place.new ≡ content self.now ++ drop result place.old }
     {
         let n = usize::from(self.filled);
-        lay(place, &self.bytes[..n]);
+        place[..n].copy_from_slice(&self.bytes[..n]);
         n
     }
 }

@@ -1,4 +1,4 @@
-use Rattle.std.proofs.Common.{◌≡◌, length, set, Some, sym, ap, ◌∙◌, arith}
+use Rattle.std.proofs.Common.{◌≡◌, length, set, Some, ap, ◌∙◌, arith, rules, tests}
 use Rattle.ring.specs.Span.{Span, free_at, rung}
 use Rattle.ring.specs.Items.{span_of}
 use Rattle.ring.proofs.Spans.{rung_longer}
@@ -10,5 +10,5 @@ returns-clause-items g c =
     let s : Span = span_of r in
     let xs = c.args.slots.now in
     let long : length xs ≡ 64 = omega arith in
-    let free : Some c.in-Some.at ≡ free_at s = sym c.in-Some.is ∙ c.claim.ensures.place in
-    ap (λ (t : Span). rung (set xs c.in-Some.at c.args.x) t) c.claim.ensures.after ∙ rung_longer xs s long r.start r.few c.in-Some.at c.args.x free
+    let free : Some c.in_ok-at.at ≡ free_at s = search (rules, tests) in
+    ap (λ (t : Span). rung (set xs c.in_ok-at.at c.args.x) t) c.claim.ensures.after ∙ rung_longer xs s long r.start r.few c.in_ok-at.at c.args.x free

@@ -5,8 +5,8 @@ use Rattle.ring.specs.Items.{span_of, items}
 use Rattle.ring.proofs.Spans.{rung_set, nth_set_other}
 use Rattle.ring.proofs.ring.Ring.set.Goals as goal
 
-pub written : goal.returns-clause-items
-written g c =
+pub returns-clause-items : goal.returns-clause-items
+returns-clause-items g c =
     let r = c.args.self.now in
     let s : Span = span_of r in
     let xs = c.args.slots.now in
@@ -15,8 +15,5 @@ written g c =
     let taken : Some c.in-Some.at ≡ taken_at s i = sym c.in-Some.is ∙ c.place.ensures in
     rung_set xs s long r.start r.few i c.in-Some.at c.args.x taken
 
-pub returns-clause-items : goal.returns-clause-items
-returns-clause-items g c = written g c
-
 pub returns-clause-others : goal.returns-clause-others
-returns-clause-others g c = λ k ne. ap (λ l. slice_get l k) (written g c) ∙ nth_set_other (items c.args.self.now c.args.slots.now) c.args.distance k c.args.x ne
+returns-clause-others g c = λ k ne. ap (λ l. slice_get l k) (returns-clause-items g c) ∙ nth_set_other (items c.args.self.now c.args.slots.now) c.args.distance k c.args.x ne
