@@ -7,7 +7,7 @@ ghost use Rattle.frame.specs.Ranges.{conn_fits, head_fits, count_fits, udata_fit
 use crate::fields::{ConnId, ConnType, Fragment, Head, SeqNo, WindowExponent};
 use crate::form::{Frame, PIECE};
 
-/// The fields of a CONN frame fit its type.
+/// The fields of a CONN frame fit its type. The reader asks with four fields, before there is a frame.
 pub(crate) fn conn_fits(
     to: ConnId,
     kind: ConnType,

@@ -171,6 +171,7 @@ impl<'a> Packet<'a> {
         Ok(Frame::Nack { head, count, from })
     }
 
+    // UDATA and FRAG differ in words, in ranges and in what they answer: one function for both would ask which at each check.
     fn udata(self, head: Head) -> Result<Frame<'a>, HeaderFault>
         ensures { answer result
             ≡ udata_of self.entry.bytes.now (main_fields self.entry) (head_fields head) }
@@ -249,7 +250,7 @@ impl<'a> Packet<'a> {
     }
 }
 
-// Header after header, by the rules' order.
+// Header after header, by the rules' order. `read` adds what that means: in here, that would be owed on each way out.
 fn parse<'a>(bytes: &'a [u8]) -> Result<Frame<'a>, FrameFault>
     ensures { answer result ≡ frame_of bytes.now }
 {

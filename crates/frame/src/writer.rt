@@ -57,6 +57,7 @@ fn conn_word(kind: ConnType, window: WindowExponent, published: ConnId) -> [u8; 
     conn.to_be_bytes()
 }
 
+// Here and below, numbers in range are asked of the caller and are no part of `SeqNo`: the writer declines others, so they exist.
 fn ack_word(next: AfterAck, head: Head) -> [u8; 4]
     requires ackno { head.ackno.0 ≤ 4095 }
     requires seqno { head.seqno.0 ≤ 4095 }
@@ -160,7 +161,8 @@ fn write_fit(frame: Frame, place: &mut [u8]) -> usize
     }
 }
 
-// A frame that fits is written; any other leaves the place as it was.
+// A frame that fits is written; any other leaves the place as it was. `write` adds that it reads back, which in here would be owed
+// on each way out.
 fn try_write(frame: Frame, place: &mut [u8]) -> Result<usize, Refusal>
     ensures value { result ≡ written (fields frame.entry) place.old }
     ensures after { place.new ≡ placed result (fields frame.entry) place.old }

@@ -1,4 +1,5 @@
-//! A form as it was typed: numbers that may lie outside their fields.
+//! A form as it was typed: numbers that may lie outside their fields. So its types are like those of `frame`, and no instances of
+//! the same: there each field has a type of its own.
 ghost use Rattle.std.specs.Prelude.{◌≡◌, ◌≤◌, false, ◌⊎◌, MatchOption};
 ghost use Rattle.frame.specs.Fields.{head_fields, fields, bit, conn as conn_fields};
 ghost use Rattle.frame.specs.Ranges.{conn_fits, head_fits, in_range};

@@ -65,7 +65,7 @@ fn byte(high: u8, low: u8) -> Option<u8>
     Some(nibble(high)? * 16 + nibble(low)?)
 }
 
-// The bytes of a row of pairs.
+// The bytes of a row of pairs, which a pattern takes off one by one; with `as_chunks` there would be an odd rest to keep besides.
 fn bytes_of(heap: Global, digits: &[u8]) -> Result<Option<Vec<u8>>, AllocError>
     ensures { IfOk result (λ o. option_map vec_items o ≡ paired digits.now) }
 {

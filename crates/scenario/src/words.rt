@@ -32,7 +32,7 @@ fn number_of(word: &str) -> Option<u32>
     Some(word.parse().unwrap_or(u32::MAX))
 }
 
-// The first word of a text, and what is left behind its space.
+// The first word of a text, and what is left behind its space. By match, which shows the two pairs better than `map_or` does.
 fn cut(text: &str) -> (&str, Option<&str>)
     ensures word { result.0.now ≡ first_word text.now }
     ensures left { option_map (λ t. t.now) result.1 ≡ behind_word text.now }

@@ -8,7 +8,7 @@ use std::array;
 /// A frame that waits.
 #[derive(Clone, Copy)]
 pub(crate) struct Record {
-    /// The slot that has its bytes.
+    /// The slot that has its bytes. (It is cast where it indexes: behind `usize::from` the goals of `give` and `peek` stayed open.)
     pub(crate) slot: u8,
     /// The count of puts when it was put in, which goes round at 65,536.
     pub(crate) stamp: u16,

@@ -53,7 +53,8 @@ impl Slot {
     }
 }
 
-/// Fills one slot where it lies; the others stay as they are.
+/// Fills one slot where it lies; the others stay as they are. A function of its own, since an element of a field that stands beside
+/// a ghost field is not lent where it is.
 pub(crate) fn fill_at(slots: &mut [Slot], at: usize, frame: Carried)
     requires { at < length slots.old }
     ensures { map content slots.new ≡ slice_set (map content slots.old) at frame.entry.bytes.now }
