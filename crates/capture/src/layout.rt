@@ -1,30 +1,8 @@
 //! The parts of a capture's headers, byte for byte.
 ghost use Rattle.std.specs.Prelude.{◌≡◌, ◌+◌, ◌++◌, length};
-ghost use Rattle.capture.specs.Format.{file_header, record_header, ethernet_header, address_end, frame_header};
+ghost use Rattle.capture.specs.Format.{record_header, ethernet_header, address_end, frame_header};
 
 use medium::Side;
-
-// The same in every capture.
-pub(crate) fn fixed_header() -> [u8; 24]
-    ensures { result ≡ file_header }
-{
-    [
-        // the magic number
-        0xa1, 0xb2, 0xc3, 0xd4,
-        // version 2
-        0x00, 0x02,
-        // point 4
-        0x00, 0x04,
-        // no time zone
-        0x00, 0x00, 0x00, 0x00,
-        // nothing on how exact the stamps are
-        0x00, 0x00, 0x00, 0x00,
-        // the longest packet
-        0x00, 0x00, 0xff, 0xff,
-        // Ethernet
-        0x00, 0x00, 0x00, 0x01,
-    ]
-}
 
 // Packets are a microsecond apart. A packet is kept whole, so both lengths are the same.
 fn record_header(number: u64, len: u16) -> [u8; 16]

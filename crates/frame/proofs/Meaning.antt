@@ -1,16 +1,9 @@
 -- What the answer of the reader means for the bytes that it read.
-use Rattle.std.proofs.Common.{◌≡◌, ℕ, not, ltb, List, [], ◌∷◌, length, drop, Ok, Err, Result, sym, refl, ap, ◌∙◌, arith}
-use Rattle.std.proofs.lemmas.Bool.{not-false}
+use Rattle.std.proofs.Common.{◌≡◌, ℕ, List, Ok, Err, Result, sym, refl, ap, ◌∙◌, arith}
 use Rattle.frame.specs.declared.fault.FrameFault.{FrameFault}
-use Rattle.frame.specs.declared.writer.Refusal.{Refusal}
-use Rattle.frame.specs.declared.writer.Refusal.TheVariants.{Range, Room}
 use Rattle.frame.specs.Fields.{Fields}
 use Rattle.frame.specs.Reader.{frame_of}
-use Rattle.frame.specs.Layout.{size}
-use Rattle.frame.specs.Ranges.{in_range}
-use Rattle.frame.specs.Writer.{written, placed}
-use Rattle.frame.specs.Laws.{Carries, Means, ReadsBack}
-use Rattle.frame.proofs.Judging.{judged_passed}
+use Rattle.frame.specs.Laws.{Carries, Means}
 use Rattle.frame.proofs.Words.{Bytes}
 use Rattle.frame.proofs.ReadBack.{reads_back}
 use Rattle.frame.proofs.Accepted.{accepted}
@@ -30,10 +23,3 @@ means bs small r h = record {
   no_frame = none bs small r (sym h);
   one = λ f g c d. let k = carried bs f c in let l = carried bs g d in cc;
 }
-
--- What was written reads back.
-pub wrote : (r : Result ℕ Refusal) (f : Fields) (before after : List ℕ) → r ≡ written f before → after ≡ placed r f before → ReadsBack r f after
-wrote (Ok n) f before after e a =
-    let t = judged_passed ((not (in_range f), Range) ∷ (ltb (length before) (size f), Room) ∷ []) (size f) n (sym e) in
-    ap frame_of a ∙ reads_back f (drop n before) (not-false (in_range f) t.0.0)
-wrote (Err x) f before after e a = tt

@@ -161,11 +161,11 @@ fn write_fit(frame: Frame, place: &mut [u8]) -> usize
     }
 }
 
-// A frame that fits is written; any other leaves the place as it was. `write` adds that it reads back, which in here would be owed
-// on each way out.
-fn try_write(frame: Frame, place: &mut [u8]) -> Result<usize, Refusal>
+/// Writes a frame to the front of a place and answers its length.
+pub fn write(frame: Frame, place: &mut [u8]) -> Result<usize, Refusal>
     ensures value { result ≡ written (fields frame.entry) place.old }
     ensures after { place.new ≡ placed result (fields frame.entry) place.old }
+    ensures reads_back { ReadsBack result (fields frame.entry) place.new }
 {
     if !in_range(frame) {
         return Err(Refusal::Range);
@@ -174,13 +174,4 @@ fn try_write(frame: Frame, place: &mut [u8]) -> Result<usize, Refusal>
         return Err(Refusal::Room);
     }
     Ok(write_fit(frame, place))
-}
-
-/// Writes a frame to the front of a place and answers its length.
-pub fn write(frame: Frame, place: &mut [u8]) -> Result<usize, Refusal>
-    ensures value { result ≡ written (fields frame.entry) place.old }
-    ensures after { place.new ≡ placed result (fields frame.entry) place.old }
-    ensures reads_back { ReadsBack result (fields frame.entry) place.new }
-{
-    try_write(frame, place)
 }
