@@ -7,7 +7,8 @@ ghost use Rattle.scenario.specs.Hex.{digit_of, hexed, nibble_of, byte_of, paired
 use std::alloc::{AllocError, Global};
 use std::fmt;
 
-// The digit of a value. `{byte:02X}` would say all of it, and was tried: it takes four times as long for a byte.
+// The digit of a value. `{byte:02X}` prints the same two digits in the same time; by hand, an edit can get a letter wrong and be
+// refused.
 fn digit(value: u8) -> char
     requires { value < 16 }
     ensures value { result ≡ digit_of value }
