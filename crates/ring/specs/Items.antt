@@ -1,5 +1,5 @@
 -- What a ring holds.
-use Rattle.std.specs.Prelude.{ℕ, Bool, cond, ◌&&◌, List, ◌∷◌, length, None, Option, ◌==◌, nat_lt, slice_index_or}
+use Rattle.std.specs.Prelude.{ℕ, Bool, cond, ◌&&◌, List, ◌∷◌, length, take, drop, None, Option, ◌==◌, nat_lt, slice_index_or}
 use Rattle.std.specs.List.{remove, slice_get}
 use Rattle.ring.specs.Span.{Span, rung}
 use Rattle.ring.specs.declared.ring.Ring.{Ring}
@@ -14,6 +14,10 @@ nothing = record { head = 0; count = 0 }
 -- The elements of a ring over its places, oldest first.
 abbrev pub items : {X : Type 0} → Ring → List X → List X
 items r xs = rung xs (span_of r)
+
+-- Those of them that lie before the round goes on at the first place.
+abbrev pub up_to_end : {X : Type 0} → Ring → List X → List X
+up_to_end r xs = take r.count (drop r.head xs)
 
 -- Whether a slice has as many places as a ring.
 abbrev pub is_places : {X : Type 0} → List X → Bool

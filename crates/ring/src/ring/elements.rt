@@ -4,7 +4,7 @@ ghost use Rattle.std.specs.List.{swap, slice_get};
 ghost use Rattle.std.specs.Option.{option_map};
 ghost use Rattle.std.specs.List.Sorted.{IsPermutation};
 ghost use Rattle.ring.specs.Span.{spot, longer, shorter};
-ghost use Rattle.ring.specs.Items.{is_places, span_of, items, has_room, holds, element_at, brought};
+ghost use Rattle.ring.specs.Items.{is_places, span_of, items, up_to_end, has_room, holds, element_at, brought};
 
 use super::{Full, Ring};
 
@@ -38,7 +38,8 @@ impl Ring {
     /// The elements, oldest first, in two parts: those up to the last place, and those that go on at the first. Both are empty where
     /// the slice has not 64 places.
     pub fn as_slices<'a, T>(&self, slots: &'a [T]) -> (&'a [T], &'a [T])
-        ensures { result.0.now ++ result.1.now ≡ (if is_places slots.now then items self.now slots.now else []) }
+        ensures items { result.0.now ++ result.1.now ≡ (if is_places slots.now then items self.now slots.now else []) }
+        ensures first { result.0.now ≡ (if is_places slots.now then up_to_end self.now slots.now else []) }
     {
         if slots.len() != Ring::PLACES {
             return (&[], &[]);

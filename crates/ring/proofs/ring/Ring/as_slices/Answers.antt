@@ -4,8 +4,8 @@ use Rattle.ring.specs.Items.{items}
 use Rattle.ring.proofs.Rungs.{row_wraps}
 use Rattle.ring.proofs.ring.Ring.as_slices.Goals as goal
 
-pub returns-else-self-back : goal.returns-else-self-back
-returns-else-self-back g c =
+pub returns-else-self-back-clause-items : goal.returns-else-self-back-clause-items
+returns-else-self-back-clause-items g c =
     let r = c.args.self.now in
     let xs = c.args.slots.now in
     let long : length xs ≡ 64 = omega arith in

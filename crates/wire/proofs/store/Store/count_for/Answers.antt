@@ -17,5 +17,5 @@ returns c =
     let counted : c.count.result ≡ length (filter (λ (r : Record). same_side side r.side) (parts.0.now ++ parts.1.now)) =
     count_from_yields_List _ _ c.count.ensures.ran (YieldsList-from_filter _ (λ (r : Record). same_side side r.side) all c.filter.ensures.closure (λ x r q k. search (rules, tests))) in
     counted
-    ∙ ap (λ (rs : List Record). length (filter (λ r. same_side side r.side) rs)) (c.as_slices.ensures ∙ held_records s)
+    ∙ ap (λ (rs : List Record). length (filter (λ r. same_side side r.side) rs)) (c.as_slices.ensures.items ∙ held_records s)
     ∙ sym (length_for_side side s)

@@ -22,5 +22,5 @@ returns c =
     let answered : c.map_or.result ≡ option_map_or (λ (q : ℕ × Record). q.0) (option_map (λ p. (p.0, p.1.now)) c.nth.result) none = search rules in
     answered
     ∙ ap (λ (o : Option (ℕ × Record)). option_map_or (λ (q : ℕ × Record). q.0) o none) found
-    ∙ ap (λ (rs : List Record). place side 0 rs k none) (c.as_slices.ensures ∙ held_records s)
+    ∙ ap (λ (rs : List Record). place side 0 rs k none) (c.as_slices.ensures.items ∙ held_records s)
     ∙ place_held side s k none c.count.ensures
