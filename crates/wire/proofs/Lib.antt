@@ -4,6 +4,7 @@ pub mod Adding
 pub mod Reading
 pub mod Fronts
 pub mod Removing
+pub mod Members
 pub mod Straightness
 pub mod Ordered
 pub mod InTime

@@ -1,5 +1,5 @@
 -- The straight wire: a put by the changes to its stores.
-use Rattle.std.specs.Prelude.{◌≡◌, ℕ, ◌+◌, Bool, true, false, cond, List, [], ◌∷◌, ◌++◌, map, length, drop, nat_lt, refl}
+use Rattle.std.specs.Prelude.{◌≡◌, ℕ, ◌+◌, ◌≤◌, Bool, true, false, cond, List, [], ◌∷◌, ◌++◌, map, length, drop, nat_lt, refl}
 use Rattle.std.proofs.Common.{sym, ◌∙◌, ap, arith}
 use Rattle.std.proofs.lemmas.List.{map_push, length-map, drop-map}
 use Rattle.medium.specs.Waiting.{Waiting, other_side, fresh, older_by, age_limit}
@@ -10,6 +10,7 @@ use Rattle.wire.specs.Straight.{queue, to, queues_of, put_queued, given_first, t
 use Rattle.wire.specs.Sided.{at, with_at}
 use Rattle.wire.specs.declared.store.Store.{Store}
 use Rattle.wire.specs.declared.straight.StraightWire.{StraightWire}
+use Rattle.wire.proofs.Members.{held_few}
 
 sides_differ : Left ≡ Right → ⊥
 sides_differ e = let z : ◌≡◌ {A = ℕ} 0 1 = cc in omega arith
@@ -60,3 +61,10 @@ given_is w s = ap (λ (ws : List Waiting). frame_at ws 0) (queue_is w s) ∙ fir
 pub take_one : (w : StraightWire) (s : Side) (left : Store) → held left ≡ drop 1 (held (at s w.queues)) → queues_of (record { queues = with_at s w.queues left }) ≡ take_queued s (queues_of w)
 take_one w Left left e = let q = ap (map (to Left)) e ∙ sym (drop-map (to Left) 1 (held w.queues.left)) in cc
 take_one w Right left e = let q = ap (map (to Right)) e ∙ sym (drop-map (to Right) 1 (held w.queues.right)) in cc
+
+-- A queue has at most 64 frames.
+pub queue_few : (w : StraightWire) (s : Side) → length (queue s (queues_of w)) ≤ 64
+queue_few w s =
+    let n = ap length (queue_is w s) ∙ length-map (held (at s w.queues)) (to s) in
+    let f = held_few (at s w.queues) in
+    omega arith
