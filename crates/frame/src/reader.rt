@@ -235,17 +235,16 @@ impl<'a> Packet<'a> {
     fn behind(self) -> Result<Frame<'a>, HeaderFault>
         ensures { answer result ≡ behind_main self.entry.bytes.now (main_fields self.entry) }
     {
-        match self.next {
-            AfterMain::Conn => self.conn(),
-            AfterMain::Ack => {
-                let AckHeader { next, head } = self.ack()?;
-                match next {
-                    AfterAck::Last => self.last(head),
-                    AfterAck::Nack => self.nack(head),
-                    AfterAck::Udata => self.udata(head),
-                    AfterAck::Frag => self.frag(head),
-                }
-            }
+        // CONN by itself: as one of two arms, it costs a program in C half as much time again.
+        if self.next == AfterMain::Conn {
+            return self.conn();
+        }
+        let AckHeader { next, head } = self.ack()?;
+        match next {
+            AfterAck::Last => self.last(head),
+            AfterAck::Nack => self.nack(head),
+            AfterAck::Udata => self.udata(head),
+            AfterAck::Frag => self.frag(head),
         }
     }
 }
