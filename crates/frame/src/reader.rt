@@ -235,7 +235,7 @@ impl<'a> Packet<'a> {
     fn behind(self) -> Result<Frame<'a>, HeaderFault>
         ensures { answer result ≡ behind_main self.entry.bytes.now (main_fields self.entry) }
     {
-        // CONN by itself: as one of two arms, it costs a program in C half as much time again.
+        // CONN by itself: as one of two arms, a program in C took up to half as much time again.
         if self.next == AfterMain::Conn {
             return self.conn();
         }

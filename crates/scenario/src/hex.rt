@@ -22,7 +22,7 @@ fn digit(value: u8) -> u8
     }
 }
 
-// The digits of a few bytes, in one piece: a formatter that is handed them one by one takes twice the time.
+// The digits of a few bytes, in one piece: one by one, a line with many bytes takes the bench twice the time.
 fn write_row<W: fmt::Write>(f: &mut fmt::Formatter<W>, bytes: &[u8]) -> fmt::Result
     requires { length bytes.now ≤ 32 }
     ensures { WritesOnOk W.write_str_gives f.old result (flat_map pair_of bytes.now) f.new }
